@@ -1,0 +1,208 @@
+-- Membership, for every server and every number of servers at once.
+--     has-suc       digit i + 1 of s is digit i of s / 2
+--     has-union     membership in a union; has-meet, has-minus likewise
+--     has-beyond    a set below 2^n has no member from n on
+--     has-full      the full set of n servers has the servers below n
+--     same-members  two sets below 2^n with the same members below n are equal
+--     encode-has    the number of a test has the test's members; encode-small bounds it
+--     within-in     a subset's members are members; in-within the other way
+-- Assumes nothing.
+use mathlib.Core.Path.{_≡_, refl, sym, ap, _∙_}
+use mathlib.Core.Bool.{Bool, true, false, cond, not, _&&_, _||_}
+use Prim.Native.Nat.{ℕ, zero, suc, _+_, _-_, _*_, _/_, _%_, _^_, _≤_, _<_, min, max}
+use native.Mathlib.Nat.{pow-suc, add-comm}
+use native.Mathlib.Numerals.{add-one}
+use native.Mathlib.Omega.{arith}
+use lib.Bits.{bitAnd, bitOr, bitXor, and-step, or-step, xor-step, and-shr, or-shr, xor-shr, differ, or-lt, xor-lt, and-lt, and-le-l}
+use lib.Pow.{shr-shr, pow-pos}
+use lib.Dec.{eqb, ltb, lit<}
+use borrow.Author.Tests.{lt-ltb, le-ltb, eq-eqb, eqb-true, eqb-false, ltb-true, ltb-false}
+use Rattle.facts.proofs.Bools.{cases, clash, same, and-left, and-right, both}
+use Rattle.sets.specs.Sets.{Set, In, Out, has, union, meet, minus, within, full, encode}
+
+-- `meet` is what the code computes
+meet-is : (a b : ℕ) → meet a b ≡ bitAnd a b
+unfolding meet
+meet-is a b = refl
+
+pub pow-double : (n : ℕ) → 2 ^ suc n ≡ 2 * 2 ^ n
+pow-double n = let e = pow-suc 2 n in omega arith
+
+pub has-zero : (s : ℕ) → has s 0 ≡ eqb (s % 2) 1
+unfolding has
+has-zero s = let e : s / 2 ^ 0 ≡ s = omega arith in rw e refl
+
+pub has-suc : (s i : ℕ) → has s (suc i) ≡ has (s / 2) i
+unfolding has
+has-suc s i = let e : 1 + i ≡ suc i = omega arith in rw (← e, ← shr-shr s 1 i) refl
+
+-- on digits the least, the greatest and the difference are "and", "or" and "not the same"
+digits-and : (a b : ℕ) → a < 2 → b < 2 → eqb (min a b) 1 ≡ (eqb a 1 && eqb b 1)
+digits-and zero zero p q = refl
+digits-and zero (suc zero) p q = refl
+digits-and (suc zero) zero p q = refl
+digits-and (suc zero) (suc zero) p q = refl
+digits-and zero (suc (suc b)) p q = absurd (omega arith)
+digits-and (suc zero) (suc (suc b)) p q = absurd (omega arith)
+digits-and (suc (suc a)) b p q = absurd (omega arith)
+
+digits-or : (a b : ℕ) → a < 2 → b < 2 → eqb (max a b) 1 ≡ (eqb a 1 || eqb b 1)
+digits-or zero zero p q = refl
+digits-or zero (suc zero) p q = refl
+digits-or (suc zero) zero p q = refl
+digits-or (suc zero) (suc zero) p q = refl
+digits-or zero (suc (suc b)) p q = absurd (omega arith)
+digits-or (suc zero) (suc (suc b)) p q = absurd (omega arith)
+digits-or (suc (suc a)) b p q = absurd (omega arith)
+
+digits-minus : (a b : ℕ) → a < 2 → b < 2 → eqb (differ a (min a b)) 1 ≡ (eqb a 1 && not (eqb b 1))
+digits-minus zero zero p q = refl
+digits-minus zero (suc zero) p q = refl
+digits-minus (suc zero) zero p q = refl
+digits-minus (suc zero) (suc zero) p q = refl
+digits-minus zero (suc (suc b)) p q = absurd (omega arith)
+digits-minus (suc zero) (suc (suc b)) p q = absurd (omega arith)
+digits-minus (suc (suc a)) b p q = absurd (omega arith)
+
+digit-small : (x : ℕ) → x % 2 < 2
+digit-small x = omega arith
+
+and-lowest : (x y : ℕ) → bitAnd x y % 2 ≡ min (x % 2) (y % 2)
+and-lowest x y = omega (arith, and-step x y)
+
+or-lowest : (x y : ℕ) → bitOr x y % 2 ≡ max (x % 2) (y % 2)
+or-lowest x y = omega (arith, or-step x y)
+
+differ-small : (a b : ℕ) → a < 2 → b < 2 → differ a b < 2
+differ-small zero zero p q = lit< tt
+differ-small zero (suc zero) p q = lit< tt
+differ-small (suc zero) zero p q = lit< tt
+differ-small (suc zero) (suc zero) p q = lit< tt
+differ-small zero (suc (suc b)) p q = absurd (omega arith)
+differ-small (suc zero) (suc (suc b)) p q = absurd (omega arith)
+differ-small (suc (suc a)) b p q = absurd (omega arith)
+
+xor-lowest : (x y : ℕ) → bitXor x y % 2 ≡ differ (x % 2) (y % 2)
+xor-lowest x y = omega (arith, xor-step x y, differ-small (x % 2) (y % 2) (digit-small x) (digit-small y))
+
+pub has-meet : (a b i : ℕ) → has (meet a b) i ≡ (has a i && has b i)
+unfolding has meet
+has-meet a b i =
+    rw (and-shr a b i, and-lowest (a / 2 ^ i) (b / 2 ^ i))
+    (digits-and (a / 2 ^ i % 2) (b / 2 ^ i % 2) (digit-small (a / 2 ^ i)) (digit-small (b / 2 ^ i)))
+
+pub has-union : (a b i : ℕ) → has (union a b) i ≡ (has a i || has b i)
+unfolding has union
+has-union a b i =
+    rw (or-shr a b i, or-lowest (a / 2 ^ i) (b / 2 ^ i))
+    (digits-or (a / 2 ^ i % 2) (b / 2 ^ i % 2) (digit-small (a / 2 ^ i)) (digit-small (b / 2 ^ i)))
+
+pub has-minus : (a b i : ℕ) → has (minus a b) i ≡ (has a i && not (has b i))
+unfolding has minus
+has-minus a b i =
+    rw (xor-shr a (bitAnd a b) i, and-shr a b i, xor-lowest (a / 2 ^ i) (bitAnd (a / 2 ^ i) (b / 2 ^ i)), and-lowest (a / 2 ^ i) (b / 2 ^ i))
+    (digits-minus (a / 2 ^ i % 2) (b / 2 ^ i % 2) (digit-small (a / 2 ^ i)) (digit-small (b / 2 ^ i)))
+
+pub has-empty : (i : ℕ) → has 0 i ≡ false
+has-empty zero = has-zero 0
+has-empty (suc i) = has-suc 0 i ∙ has-empty i
+
+-- bounds of the operations
+
+pub union-small : (n a b : ℕ) → a < 2 ^ n → b < 2 ^ n → union a b < 2 ^ n
+unfolding union
+union-small n a b p q = or-lt n a b p q
+
+pub meet-small : (n a b : ℕ) → a < 2 ^ n → b < 2 ^ n → meet a b < 2 ^ n
+unfolding meet
+meet-small n a b p q = and-lt n a b p q
+
+pub minus-small : (n a b : ℕ) → a < 2 ^ n → minus a b < 2 ^ n
+unfolding minus
+minus-small n a b p = let q = and-le-l a b in xor-lt n a (bitAnd a b) p (omega arith)
+
+half-small : (n s : ℕ) → s < 2 ^ suc n → s / 2 < 2 ^ n
+half-small n s h = let e = pow-double n in omega arith
+
+pub has-beyond : (n s i : ℕ) → s < 2 ^ n → n ≤ i → has s i ≡ false
+has-beyond zero s i h k = let e : s ≡ 0 = omega arith in rw e (has-empty i)
+has-beyond (suc n) s zero h k = absurd (omega arith)
+has-beyond (suc n) s (suc i) h k = has-suc s i ∙ has-beyond n (s / 2) i (half-small n s h) (omega arith)
+
+pub has-below : (n s i : ℕ) → s < 2 ^ n → has s i ≡ true → i < n
+has-below n s i h e =
+    cases (ltb i n) (λ q. ltb-true i n q) (λ q. clash (has s i) e (has-beyond n s i h (ltb-false i n q)))
+
+pub has-full : (n i : ℕ) → has (full n) i ≡ ltb i n
+unfolding full
+has-full zero i = has-empty i ∙ sym (le-ltb i 0 (omega arith))
+has-full (suc n) zero =
+    let e = pow-double n in
+    let p = pow-pos n in
+    let odd : (2 ^ suc n - 1) % 2 ≡ 1 = omega arith in
+    has-zero (2 ^ suc n - 1) ∙ eq-eqb ((2 ^ suc n - 1) % 2) 1 odd ∙ sym (lt-ltb 0 (suc n) (omega arith))
+has-full (suc n) (suc i) =
+    let e = pow-double n in
+    let p = pow-pos n in
+    let half : (2 ^ suc n - 1) / 2 ≡ 2 ^ n - 1 = omega arith in
+    has-suc (2 ^ suc n - 1) i ∙ ap (λ (s : ℕ). has s i) half ∙ has-full n i
+    ∙ same (ltb i n) (ltb (suc i) (suc n)) (λ q. lt-ltb (suc i) (suc n) (omega (arith, ltb-true))) (λ q. lt-ltb i n (omega (arith, ltb-true)))
+
+pub full-small : (n : ℕ) → full n < 2 ^ n
+unfolding full
+full-small n = let p = pow-pos n in omega arith
+
+-- equality by membership
+
+digit-same : (a b : ℕ) → has a 0 ≡ has b 0 → a % 2 ≡ b % 2
+digit-same a b e =
+    let f : eqb (a % 2) 1 ≡ eqb (b % 2) 1 = sym (has-zero a) ∙ e ∙ has-zero b in
+    cases (eqb (b % 2) 1)
+    (λ q. eqb-true (a % 2) 1 (f ∙ q) ∙ sym (eqb-true (b % 2) 1 q))
+    (λ q. let x = eqb-false (a % 2) 1 (f ∙ q) in let y = eqb-false (b % 2) 1 q in omega arith)
+
+pub same-members : (n a b : ℕ) → a < 2 ^ n → b < 2 ^ n → ((i : ℕ) → i < n → has a i ≡ has b i) → a ≡ b
+same-members zero a b p q h = omega arith
+same-members (suc n) a b p q h =
+    let tails = same-members n (a / 2) (b / 2) (half-small n a p) (half-small n b q) (λ i k. sym (has-suc a i) ∙ h (suc i) (omega arith) ∙ has-suc b i) in
+    let heads = digit-same a b (h 0 (omega arith)) in
+    omega arith
+
+-- a set with no member is empty
+pub no-member : (n s : ℕ) → s < 2 ^ n → ((i : ℕ) → i < n → has s i ≡ false) → s ≡ 0
+no-member n s p h = same-members n s 0 p (pow-pos n) (λ i k. h i k ∙ sym (has-empty i))
+
+pub encode-small : (n : ℕ) (p : Set) → encode n p < 2 ^ n
+unfolding encode
+encode-small zero p = lit< tt
+encode-small (suc n) p =
+    let ih = encode-small n (λ (i : ℕ). p (suc i)) in
+    let e = pow-double n in
+    cases (p 0) (λ q. rw q (omega arith)) (λ q. rw q (omega arith))
+
+pub encode-has : (n : ℕ) (p : Set) (i : ℕ) → i < n → has (encode n p) i ≡ p i
+unfolding encode
+encode-has zero p i k = absurd (omega arith)
+encode-has (suc n) p zero k =
+    cases (p 0)
+    (λ q. rw q (let e : (1 + 2 * encode n (λ (i : ℕ). p (suc i))) % 2 ≡ 1 = omega arith in has-zero (1 + 2 * encode n (λ (i : ℕ). p (suc i))) ∙ eq-eqb ((1 + 2 * encode n (λ (i : ℕ). p (suc i))) % 2) 1 e))
+    (λ q. rw q (let e : (0 + 2 * encode n (λ (i : ℕ). p (suc i))) % 2 ≡ 0 = omega arith in has-zero (0 + 2 * encode n (λ (i : ℕ). p (suc i))) ∙ ap (λ (d : ℕ). eqb d 1) e))
+encode-has (suc n) p (suc i) k =
+    let half : (cond (p 0) 1 0 + 2 * encode n (λ (i : ℕ). p (suc i))) / 2 ≡ encode n (λ (i : ℕ). p (suc i)) = cases (p 0) (λ q. rw q (omega arith)) (λ q. rw q (omega arith)) in
+    has-suc (cond (p 0) 1 0 + 2 * encode n (λ (i : ℕ). p (suc i))) i ∙ ap (λ (s : ℕ). has s i) half ∙ encode-has n (λ (j : ℕ). p (suc j)) i (omega arith)
+
+-- inclusion
+
+pub within-in : (a b : ℕ) → within a b ≡ true → (i : ℕ) → has a i ≡ true → has b i ≡ true
+unfolding within
+within-in a b w i e =
+    let m : meet a b ≡ a = meet-of a b w in
+    and-right (has a i) (has b i) (sym (has-meet a b i) ∙ ap (λ (s : ℕ). has s i) m ∙ e)
+  where
+    meet-of : (a b : ℕ) → eqb (bitAnd a b) a ≡ true → meet a b ≡ a
+    meet-of a b w = meet-is a b ∙ eqb-true (bitAnd a b) a w
+
+pub in-within : (n a b : ℕ) → a < 2 ^ n → b < 2 ^ n → ((i : ℕ) → i < n → has a i ≡ true → has b i ≡ true) → within a b ≡ true
+unfolding within
+in-within n a b p q h =
+    eq-eqb (bitAnd a b) a (sym (meet-is a b) ∙ same-members n (meet a b) a (meet-small n a b p q) p (λ i k. has-meet a b i ∙ same (has a i && has b i) (has a i) (and-left (has a i) (has b i)) (λ e. both (has a i) (has b i) e (h i k e))))

@@ -1,0 +1,14 @@
+use mathlib.Core.Path.{refl}
+use Rattle.sets.specs.Sets.{meet}
+use Rattle.sets.proofs.meet.Statement.{statement}
+use Rattle.sets.proofs.meet.Tie as tie
+use Rattle.sets.proofs.meet.Reads as reads
+use Rattle.sets.proofs.meet.Lts as lts
+
+-- src/lib.rt:61:1
+returns : tie.Need-returns
+unfolding meet
+returns c = refl
+
+pub meet-spec : {M : Type 1} → statement M
+meet-spec = tie.close (tie.spec returns)

@@ -1,0 +1,14 @@
+use mathlib.Core.Path.{refl}
+use Rattle.sets.specs.Sets.{within}
+use Rattle.sets.proofs.within.Statement.{statement}
+use Rattle.sets.proofs.within.Tie as tie
+use Rattle.sets.proofs.within.Reads as reads
+use Rattle.sets.proofs.within.Lts as lts
+
+-- src/lib.rt:75:1
+returns : tie.Need-returns
+unfolding within
+returns c = refl
+
+pub within-spec : {M : Type 1} → statement M
+within-spec = tie.close (tie.spec returns)

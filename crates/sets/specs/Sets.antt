@@ -1,0 +1,63 @@
+-- Sets of servers. In a file, in code and in an answer a set is a number, server i standing for 2^i; in a theorem it is a test.
+--     Set         == a test on servers
+--     In p i     <-> i is in p
+--     has s i     == i is in the set that the number s stands for
+--     count n p   == how many servers below n are in p
+--     size s      == how many members s has, of the eight that there can be
+--     lowest s    == the lowest member of s, 8 for the empty set
+--     full n      == all servers below n
+use mathlib.Core.Path.{_≡_}
+use mathlib.Core.Bool.{Bool, true, false, cond, not, _&&_, _||_}
+use Prim.Native.Nat.{ℕ, zero, suc, _+_, _-_, _*_, _/_, _%_, _^_, _<_}
+use lib.Bits.{bitAnd, bitOr, bitXor}
+use lib.Dec.{eqb, ltb}
+
+abbrev pub Set : Type 0
+Set = ℕ → Bool
+
+abbrev pub In : Set → ℕ → Type 0
+In p i = p i ≡ true
+
+abbrev pub Out : Set → ℕ → Type 0
+Out p i = p i ≡ false
+
+-- digit i of s is set
+unfoldable pub has : ℕ → Set
+has s i = eqb (s / 2 ^ i % 2) 1
+
+unfoldable pub union : ℕ → ℕ → ℕ
+union a b = bitOr a b
+
+unfoldable pub meet : ℕ → ℕ → ℕ
+meet a b = bitAnd a b
+
+-- the members of a that are not in b
+unfoldable pub minus : ℕ → ℕ → ℕ
+minus a b = bitXor a (bitAnd a b)
+
+-- every member of a is in b
+unfoldable pub within : ℕ → ℕ → Bool
+within a b = eqb (bitAnd a b) a
+
+unfoldable pub full : ℕ → ℕ
+full n = 2 ^ n - 1
+
+unfoldable pub count : ℕ → Set → ℕ
+count zero p = 0
+count (suc n) p = cond (p n) (suc (count n p)) (count n p)
+
+unfoldable pub size : ℕ → ℕ
+size s = count 8 (has s)
+
+-- the first of the k numbers from lo on that is in p; lo + k if none is
+unfoldable pub firstIn : ℕ → ℕ → Set → ℕ
+firstIn zero lo p = lo
+firstIn (suc k) lo p = cond (p lo) lo (firstIn k (suc lo) p)
+
+unfoldable pub lowest : ℕ → ℕ
+lowest s = firstIn 8 0 (has s)
+
+-- the number that stands for the members of p below n
+unfoldable pub encode : ℕ → Set → ℕ
+encode zero p = 0
+encode (suc n) p = cond (p 0) 1 0 + 2 * encode n (λ (i : ℕ). p (suc i))
