@@ -1,0 +1,26 @@
+// The one-way links of a network, held as eight rows of eight marks: row u has a mark at v where
+// there is a link from u to v.
+
+// There is a link from u to v.
+pub fn linked(links: [[bool; 8]; 8], u: u8, v: u8) -> bool {
+    if u < 8 {
+        if v < 8 {
+            let row = u as usize;
+            let mark = v as usize;
+            return links[row][mark];
+        }
+    }
+    false
+}
+
+// The links and one from u to v; a server past the eighth has no row.
+pub fn with_link(mut links: [[bool; 8]; 8], u: u8, v: u8) -> [[bool; 8]; 8] {
+    if u < 8 {
+        if v < 8 {
+            let row = u as usize;
+            let mark = v as usize;
+            links[row][mark] = true;
+        }
+    }
+    links
+}

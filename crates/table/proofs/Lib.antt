@@ -1,0 +1,2 @@
+-- Main    every row of the table holds
+pub mod Main

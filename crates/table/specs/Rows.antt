@@ -1,0 +1,82 @@
+-- The table of small networks: each row is a call and the values that paper 01 says it gives.
+--     Holds row  <-> the definitions give those values
+use mathlib.Core.Path.{_≡_}
+use mathlib.Core.List.{List, [], _∷_, _++_}
+use Prim.Native.Nat.{ℕ}
+use Rattle.refusal.specs.Refused.{Refused, card, plan, call}
+use Rattle.network.specs.Card.{Head, head, turned, headOf, readCard}
+use Rattle.network.specs.Split.{Split, good, bad, unread, splitTest}
+
+-- what is at fault (0 card, 1 plan, 2 call), the number, and the place of a card's or a plan's
+abbrev pub refusedValues : Refused → List ℕ
+refusedValues (card number place) = 0 ∷ number ∷ place ∷ []
+refusedValues (plan number place) = 1 ∷ number ∷ place ∷ []
+refusedValues (call number) = 2 ∷ number ∷ []
+
+-- 1, n and f; or 0 and the refusal
+abbrev pub headValues : Head → List ℕ
+headValues (head n f) = 1 ∷ n ∷ f ∷ []
+headValues (turned r) = 0 ∷ refusedValues r
+
+-- 1 for "none"; 2 and F, L, C, R; or 0 and the refusal
+abbrev pub splitValues : Split → List ℕ
+splitValues good = 1 ∷ []
+splitValues (bad f l c r) = 2 ∷ f ∷ l ∷ c ∷ r ∷ []
+splitValues (unread r) = 0 ∷ refusedValues r
+
+pub data Row : Type 0 where
+  reads : (card : List ℕ) → (values : List ℕ) → Row
+  splits : (card : List ℕ) → (values : List ℕ) → Row
+
+-- the call's values by the definitions
+abbrev pub given : Row → List ℕ
+given (reads s values) = headValues (headOf (readCard s))
+given (splits s values) = splitValues (splitTest s)
+
+-- the values that the row states
+abbrev pub stated : Row → List ℕ
+stated (reads s values) = values
+stated (splits s values) = values
+
+abbrev pub Holds : Row → Type 0
+Holds row = given row ≡ stated row
+
+-- a link from u to each of the servers vs
+abbrev pub linksFrom : ℕ → List ℕ → List ℕ
+linksFrom u [] = []
+linksFrom u (v ∷ vs) = 0x02 ∷ u ∷ v ∷ linksFrom u vs
+
+abbrev pub P1-card : List ℕ
+P1-card = 0x01 ∷ 0x02 ∷ 0x00 ∷ 0x02 ∷ 0x00 ∷ 0x01 ∷ 0x03 ∷ []
+
+abbrev pub P2-card : List ℕ
+P2-card = 0x01 ∷ 0x02 ∷ 0x00 ∷ 0x03 ∷ []
+
+abbrev pub P3-card : List ℕ
+P3-card = 0x01 ∷ 0x03 ∷ 0x01 ∷ (linksFrom 0 (1 ∷ 2 ∷ []) ++ linksFrom 1 (0 ∷ 2 ∷ []) ++ linksFrom 2 (0 ∷ 1 ∷ []) ++ 0x03 ∷ [])
+
+abbrev pub P4-card : List ℕ
+P4-card =
+    0x01 ∷ 0x04 ∷ 0x01
+    ∷ (linksFrom 0 (1 ∷ 2 ∷ 3 ∷ []) ++ linksFrom 1 (0 ∷ 2 ∷ 3 ∷ []) ++ linksFrom 2 (0 ∷ 1 ∷ 3 ∷ []) ++ linksFrom 3 (0 ∷ 1 ∷ 2 ∷ []) ++ 0x03 ∷ [])
+
+abbrev pub table : List Row
+table =
+    -- P1: accepted, no bad split
+    reads P1-card (1 ∷ 2 ∷ 0 ∷ [])
+    ∷ splits P1-card (1 ∷ [])
+    -- P2: bad split F 0, L 1, C 0, R 2
+    ∷ splits P2-card (2 ∷ 0 ∷ 1 ∷ 0 ∷ 2 ∷ [])
+    -- P3: bad split F 1, L 2, C 0, R 4
+    ∷ splits P3-card (2 ∷ 1 ∷ 2 ∷ 0 ∷ 4 ∷ [])
+    -- P4: none
+    ∷ splits P4-card (1 ∷ [])
+    -- n 8 is read, 9 refused 5
+    ∷ reads (0x01 ∷ 0x08 ∷ 0x00 ∷ 0x03 ∷ []) (1 ∷ 8 ∷ 0 ∷ [])
+    ∷ reads (0x01 ∷ 0x09 ∷ 0x00 ∷ 0x03 ∷ []) (0 ∷ 0 ∷ 5 ∷ 0 ∷ [])
+    -- f 2 is read, 3 refused 5
+    ∷ reads (0x01 ∷ 0x08 ∷ 0x02 ∷ 0x03 ∷ []) (1 ∷ 8 ∷ 2 ∷ [])
+    ∷ reads (0x01 ∷ 0x08 ∷ 0x03 ∷ 0x03 ∷ []) (0 ∷ 0 ∷ 5 ∷ 0 ∷ [])
+    -- an empty card is refused 2 at place 0
+    ∷ reads [] (0 ∷ 0 ∷ 2 ∷ 0 ∷ [])
+    ∷ []
