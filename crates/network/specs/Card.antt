@@ -30,11 +30,11 @@ unfoldable pub linkFits : ℕ → ℕ → ℕ → Bool
 linkFits n u v = ltb u n && (ltb v n && not (eqb u v))
 
 -- 01 n f
-unfoldable pub headAt : List ℕ → ℕ → Step
-headAt s at =
+unfoldable pub headAt : List ℕ → ℕ → Links → Step
+headAt s at links =
     cond (ltb (length s) (at + 3)) (turnedBack 2 at)
     (cond (not (eqb at 0)) (turnedBack 4 at)
-    (cond (headFits (getD s (at + 1) 0) (getD s (at + 2) 0)) (more (at + 3) (getD s (at + 1) 0) (getD s (at + 2) 0) noLinks)
+    (cond (headFits (getD s (at + 1) 0) (getD s (at + 2) 0)) (more (at + 3) (getD s (at + 1) 0) (getD s (at + 2) 0) links)
     (turnedBack 5 at)))
 
 -- 02 u v
@@ -58,7 +58,7 @@ unfoldable pub stepAt : List ℕ → ℕ → ℕ → ℕ → Links → Step
 stepAt s at n f links =
     cond (not (ltb at (length s))) (turnedBack 2 at)
     (cond (eqb (getD s at 0) 3) (endAt s at n f links)
-    (cond (eqb (getD s at 0) 1) (headAt s at)
+    (cond (eqb (getD s at 0) 1) (headAt s at links)
     (cond (eqb (getD s at 0) 2) (linkAt s at n f links)
     (turnedBack 2 at))))
 

@@ -1,5 +1,9 @@
 // The card reader: any bytes, any length, to the network or to the one refusal.
 use crate::links;
+ghost use mathlib.Core.Path.{_≡_};
+ghost use Rattle.refusal.specs.Refused.{cardRefusal};
+ghost use Rattle.network.specs.Card.{Head, turned, headFits, linkFits, readCard, headOf, linksOf};
+ghost use Rattle.network.specs.Answers.{readingOf};
 use refusal::CardGround;
 use refusal::Refusal;
 
@@ -9,12 +13,16 @@ pub enum Reading {
     Refused(Refusal),
 }
 
-fn refused(ground: CardGround) -> Reading {
+fn refused(ground: CardGround) -> Reading
+    ensures { λ r. ⌜ readingOf r ≡ turned (cardRefusal ground) ⌝ }
+{
     Reading::Refused(Refusal::Card(ground))
 }
 
 // n is 2 to 8 and f is 0 to 2.
-fn head_fits(n: u8, f: u8) -> bool {
+fn head_fits(n: u8, f: u8) -> bool
+    ensures { λ r. ⌜ r ≡ headFits n f ⌝ }
+{
     if n < 2 {
         return false;
     }
@@ -25,7 +33,9 @@ fn head_fits(n: u8, f: u8) -> bool {
 }
 
 // u and v are two different servers of n.
-fn link_fits(n: u8, u: u8, v: u8) -> bool {
+fn link_fits(n: u8, u: u8, v: u8) -> bool
+    ensures { λ r. ⌜ r ≡ linkFits n u v ⌝ }
+{
     if u < n {
         if v < n {
             return u != v;
@@ -35,7 +45,9 @@ fn link_fits(n: u8, u: u8, v: u8) -> bool {
 }
 
 // n and f of the card, or what is at fault.
-pub fn read_card(card: &[u8]) -> Reading {
+pub fn read_card(card: &[u8]) -> Reading
+    ensures { λ r. ⌜ readingOf r ≡ headOf (readCard (now (card .entry))) ⌝ }
+{
     if 1024 < card.len() {
         return refused(CardGround::TooLong);
     }
@@ -100,7 +112,9 @@ pub fn read_card(card: &[u8]) -> Reading {
 }
 
 // The links of the card; none where the card is refused.
-pub fn card_links(card: &[u8]) -> [[bool; 8]; 8] {
+pub fn card_links(card: &[u8]) -> [[bool; 8]; 8]
+    ensures { λ r. ⌜ r ≡ linksOf (readCard (now (card .entry))) ⌝ }
+{
     let mut links = [[false; 8]; 8];
     let reading = read_card(card);
     let Reading::Network { n: _, f: _ } = reading else {

@@ -2,6 +2,7 @@
 --     Set         == a test on servers
 --     In p i     <-> i is in p
 --     has s i     == i is in the set that the number s stands for
+--     single i    == the set of server i alone
 --     count n p   == how many servers below n are in p
 --     size s      == how many members s has, of the eight that there can be
 --     lowest s    == the lowest member of s, 8 for the empty set
@@ -24,6 +25,10 @@ Out p i = p i ≡ false
 -- digit i of s is set
 unfoldable pub has : ℕ → Set
 has s i = eqb (s / 2 ^ i % 2) 1
+
+-- server i alone, of the eight that there can be
+unfoldable pub single : ℕ → ℕ
+single i = cond (ltb i 8) (2 ^ i) 0
 
 unfoldable pub union : ℕ → ℕ → ℕ
 union a b = bitOr a b

@@ -1,6 +1,7 @@
 // A set of servers is one byte: server i stands for 2^i.
 ghost use mathlib.Core.Path.{_≡_};
-ghost use Rattle.sets.specs.Sets.{has, union, meet, minus, within, size, lowest};
+ghost use Rattle.sets.specs.Sets.{has, single, full, union, meet, minus, within, size, lowest};
+ghost use Prim.Native.Nat.{min};
 
 // How many members each set has.
 const SIZES: [u8; 256] = [
@@ -530,6 +531,27 @@ pub fn member(s: u8, i: u8) -> bool
         return (s >> i) % 2 == 1;
     }
     false
+}
+
+// The set of server i alone; a server past the eighth is in no set.
+pub fn single(i: u8) -> u8
+    ensures { λ r. ⌜ r ≡ single i ⌝ }
+{
+    if i < 8 {
+        return 1u8 << i;
+    }
+    0
+}
+
+// All servers below n, of the eight that there can be.
+pub fn full(n: u8) -> u8
+    ensures { λ r. ⌜ r ≡ full (min n 8) ⌝ }
+{
+    if n < 8 {
+        let above = 1u8 << n;
+        return above - 1;
+    }
+    255
 }
 
 pub fn union(a: u8, b: u8) -> u8

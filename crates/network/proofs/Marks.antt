@@ -1,0 +1,26 @@
+-- Marks past the end of a row, and past the last row: there is no link there, and none can be put there.
+-- Assumes nothing.
+use mathlib.Core.Path.{_≡_, refl, sym, ap, _∙_}
+use mathlib.Core.Bool.{Bool, true, false}
+use mathlib.Core.List.{List, [], _∷_}
+use Prim.Native.Nat.{ℕ, _≤_}
+use native.Mathlib.Omega.{arith}
+use lib.ListN.{length, getD, set, List·getD-eq-default}
+use lib.Seq.{set-out, set-getD}
+use Rattle.network.specs.Links.{Links, linkedIn, withLink}
+
+pub linked-past-row : (links : Links) (u v : ℕ) → length (getD links u []) ≡ 8 → 8 ≤ v → linkedIn links u v ≡ false
+unfolding linkedIn
+linked-past-row links u v e h = List·getD-eq-default (getD links u []) false (omega arith)
+
+pub linked-past-rows : (links : Links) (u v : ℕ) → length links ≡ 8 → 8 ≤ u → linkedIn links u v ≡ false
+unfolding linkedIn
+linked-past-rows links u v e h = rw (List·getD-eq-default links [] {n = u} (omega arith)) refl
+
+pub with-past-row : (links : Links) (u v : ℕ) → length (getD links u []) ≡ 8 → 8 ≤ v → withLink links u v ≡ links
+unfolding withLink
+with-past-row links u v e h = rw (set-out (getD links u []) v true (omega arith)) (set-getD links u [])
+
+pub with-past-rows : (links : Links) (u v : ℕ) → length links ≡ 8 → 8 ≤ u → withLink links u v ≡ links
+unfolding withLink
+with-past-rows links u v e h = set-out links u (set (getD links u []) v true) (omega arith)

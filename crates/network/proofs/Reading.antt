@@ -1,0 +1,132 @@
+-- The card reader's loop. `Reading s at n f links` says that what is left to read from `at` on gives the answer of the whole card; the fuel is
+-- what the definition counts down, and is never used up. One lemma for each way that a command ends. Assumes nothing.
+use mathlib.Core.Path.{_≡_, refl, sym, ap, _∙_}
+use mathlib.Core.Bool.{Bool, true, false, cond, not}
+use mathlib.Core.List.{List}
+use Prim.Native.Nat.{ℕ, zero, suc, _+_, _-_, _≤_, _<_}
+use native.Mathlib.Omega.{arith}
+use lib.ListN.{length, getD}
+use lib.Dec.{eqb, ltb}
+use borrow.Author.Tests.{lt-ltb, le-ltb, eq-eqb, ne-eqb}
+use Rattle.refusal.specs.Refused.{Refused, card}
+use Rattle.network.specs.Links.{Links, noLinks, linkedIn, withLink}
+use Rattle.network.specs.Card.{Network, network, refused, Step, more, done, turnedBack, headFits, linkFits, headAt, linkAt, endAt, stepAt, commands, readCard, Head, head, turned, headOf}
+
+pub record Reading (s : List ℕ) (at n f : ℕ) (links : Links) : Type 0 where
+  pub fuel : ℕ
+  pub inside : at ≤ length s
+  pub enough : length s ≤ at + fuel
+  pub left : commands (suc fuel) s (more at n f links) ≡ readCard s
+
+commands-done : (k : ℕ) (s : List ℕ) (answer : Network) → commands k s (done answer) ≡ answer
+unfolding commands
+commands-done zero s answer = refl
+commands-done (suc k) s answer = refl
+
+pub reading-starts : (s : List ℕ) → length s ≤ 1024 → Reading s 0 0 0 noLinks
+unfolding readCard
+reading-starts s h = record { fuel = length s; inside = omega arith; enough = omega arith; left = simp (le-ltb 1024 (length s) h) }
+
+pub reading-long : (s : List ℕ) → 1024 < length s → turned (card 1 0) ≡ headOf (readCard s)
+unfolding readCard
+reading-long s h = simp (lt-ltb 1024 (length s) h)
+
+module _ {s : List ℕ} {at n f : ℕ} {links : Links} (r : Reading s at n f links) where
+  pub reading-step : commands (r .fuel) s (stepAt s at n f links) ≡ readCard s
+  unfolding commands
+  reading-step = r .left
+
+  pub reading-ends : (answer : Network) → stepAt s at n f links ≡ done answer → headOf answer ≡ headOf (readCard s)
+  reading-ends answer e = ap headOf (sym (commands-done (r .fuel) s answer) ∙ ap (commands (r .fuel) s) (sym e) ∙ reading-step)
+
+  pub reading-goes : (at′ n′ f′ : ℕ) (links′ : Links) → stepAt s at n f links ≡ more at′ n′ f′ links′ → at < at′ → at′ ≤ length s → Reading s at′ n′ f′ links′
+  reading-goes at′ n′ f′ links′ e h k = go (r .fuel) (r .enough) (ap (commands (r .fuel) s) (sym e) ∙ reading-step)
+    where
+      go : (fuel : ℕ) → length s ≤ at + fuel → commands fuel s (more at′ n′ f′ links′) ≡ readCard s → Reading s at′ n′ f′ links′
+      go zero q p = absurd (omega arith)
+      go (suc fuel) q p = record { fuel = fuel; inside = k; enough = omega arith; left = p }
+
+  -- no byte where a command is due
+  pub reads-none : length s ≤ at → turned (card 2 at) ≡ headOf (readCard s)
+  unfolding stepAt
+  reads-none h = reading-ends (refused (card 2 at)) (simp (le-ltb at (length s) h))
+
+  module _ (h : at < length s) where
+    -- an unknown command
+    pub reads-unknown : (getD s at 0 ≡ 3 → ⊥) → (getD s at 0 ≡ 1 → ⊥) → (getD s at 0 ≡ 2 → ⊥) → turned (card 2 at) ≡ headOf (readCard s)
+    unfolding stepAt
+    reads-unknown a b d = reading-ends (refused (card 2 at)) (simp (lt-ltb at (length s) h, ne-eqb _ _ a, ne-eqb _ _ b, ne-eqb _ _ d))
+
+    module _ (e : getD s at 0 ≡ 3) where
+      step-end : stepAt s at n f links ≡ endAt s at n f links
+      unfolding stepAt
+      step-end = simp (lt-ltb at (length s) h, eq-eqb _ _ e)
+
+      pub end-first : at ≡ 0 → turned (card 4 at) ≡ headOf (readCard s)
+      unfolding endAt
+      end-first z = reading-ends (refused (card 4 at)) (step-end ∙ simp (eq-eqb at 0 z))
+
+      pub end-trailing : (at ≡ 0 → ⊥) → at + 1 < length s → turned (card 3 (at + 1)) ≡ headOf (readCard s)
+      unfolding endAt
+      end-trailing z k = reading-ends (refused (card 3 (at + 1))) (step-end ∙ simp (ne-eqb at 0 z, lt-ltb (at + 1) (length s) k))
+
+      step-done : (at ≡ 0 → ⊥) → length s ≤ at + 1 → stepAt s at n f links ≡ done (network n f links)
+      unfolding endAt
+      step-done z k = step-end ∙ simp (ne-eqb at 0 z, le-ltb (at + 1) (length s) k)
+
+      pub end-read : (at ≡ 0 → ⊥) → length s ≤ at + 1 → head n f ≡ headOf (readCard s)
+      end-read z k = reading-ends (network n f links) (step-done z k)
+
+    module _ (x : getD s at 0 ≡ 3 → ⊥) (e : getD s at 0 ≡ 1) where
+      step-head : stepAt s at n f links ≡ headAt s at links
+      unfolding stepAt
+      step-head = simp (lt-ltb at (length s) h, ne-eqb _ _ x, eq-eqb _ _ e)
+
+      pub head-cut : length s - at < 3 → turned (card 2 at) ≡ headOf (readCard s)
+      unfolding headAt
+      head-cut k = reading-ends (refused (card 2 at)) (step-head ∙ simp (lt-ltb (length s) (at + 3) (omega arith)))
+
+      module _ (k : 3 ≤ length s - at) where
+        pub head-again : (at ≡ 0 → ⊥) → turned (card 4 at) ≡ headOf (readCard s)
+        unfolding headAt
+        head-again z = reading-ends (refused (card 4 at)) (step-head ∙ simp (le-ltb (length s) (at + 3) (omega arith), ne-eqb at 0 z))
+
+        pub head-range : (b : Bool) → at ≡ 0 → b ≡ headFits (getD s (at + 1) 0) (getD s (at + 2) 0) → b ≡ false → turned (card 5 at) ≡ headOf (readCard s)
+        unfolding headAt
+        head-range b z q w = reading-ends (refused (card 5 at)) (step-head ∙ simp (le-ltb (length s) (at + 3) (omega arith), eq-eqb at 0 z, sym q ∙ w))
+
+        pub head-goes : (b : Bool) → at ≡ 0 → b ≡ headFits (getD s (at + 1) 0) (getD s (at + 2) 0) → b ≡ true → Reading s (at + 3) (getD s (at + 1) 0) (getD s (at + 2) 0) links
+        unfolding headAt
+        head-goes b z q w =
+            reading-goes (at + 3) (getD s (at + 1) 0) (getD s (at + 2) 0) links
+            (step-head ∙ simp (le-ltb (length s) (at + 3) (omega arith), eq-eqb at 0 z, sym q ∙ w)) (omega arith) (omega arith)
+
+    module _ (x : getD s at 0 ≡ 3 → ⊥) (y : getD s at 0 ≡ 1 → ⊥) (e : getD s at 0 ≡ 2) where
+      step-link : stepAt s at n f links ≡ linkAt s at n f links
+      unfolding stepAt
+      step-link = simp (lt-ltb at (length s) h, ne-eqb _ _ x, ne-eqb _ _ y, eq-eqb _ _ e)
+
+      pub link-cut : length s - at < 3 → turned (card 2 at) ≡ headOf (readCard s)
+      unfolding linkAt
+      link-cut k = reading-ends (refused (card 2 at)) (step-link ∙ simp (lt-ltb (length s) (at + 3) (omega arith)))
+
+      module _ (k : 3 ≤ length s - at) where
+        pub link-first : at ≡ 0 → turned (card 4 at) ≡ headOf (readCard s)
+        unfolding linkAt
+        link-first z = reading-ends (refused (card 4 at)) (step-link ∙ simp (le-ltb (length s) (at + 3) (omega arith), eq-eqb at 0 z))
+
+        module _ (z : at ≡ 0 → ⊥) (b : Bool) (q : b ≡ linkFits n (getD s (at + 1) 0) (getD s (at + 2) 0)) where
+          pub link-range : b ≡ false → turned (card 5 at) ≡ headOf (readCard s)
+          unfolding linkAt
+          link-range w = reading-ends (refused (card 5 at)) (step-link ∙ simp (le-ltb (length s) (at + 3) (omega arith), ne-eqb at 0 z, sym q ∙ w))
+
+          module _ (w : b ≡ true) (d : Bool) (p : d ≡ linkedIn links (getD s (at + 1) 0) (getD s (at + 2) 0)) where
+            pub link-repeated : d ≡ true → turned (card 6 at) ≡ headOf (readCard s)
+            unfolding linkAt
+            link-repeated g = reading-ends (refused (card 6 at)) (step-link ∙ simp (le-ltb (length s) (at + 3) (omega arith), ne-eqb at 0 z, sym q ∙ w, sym p ∙ g))
+
+            pub link-goes : d ≡ false → (links′ : Links) → links′ ≡ withLink links (getD s (at + 1) 0) (getD s (at + 2) 0) → Reading s (at + 3) n f links′
+            unfolding linkAt
+            link-goes g links′ m =
+                reading-goes (at + 3) n f links′
+                (step-link ∙ simp (le-ltb (length s) (at + 3) (omega arith), ne-eqb at 0 z, sym q ∙ w, sym p ∙ g) (ap (more (at + 3) n f) (sym m))) (omega arith) (omega arith)

@@ -1,0 +1,24 @@
+use borrow.Author.Tests.{lt-ltb, le-ltb, le-leb, lt-leb, eq-eqb, ne-eqb}
+use Rattle.network.specs.Card.{headFits}
+use Rattle.network.proofs.card.head_fits.Statement.{statement}
+use Rattle.network.proofs.card.head_fits.Tie as tie
+use Rattle.network.proofs.card.head_fits.Reads as reads
+use Rattle.network.proofs.card.head_fits.Lts as lts
+
+-- src/card.rt:27:9
+returns : tie.Need-returns
+unfolding headFits
+returns c = simp (lt-ltb _ _ (c .if1 .taken))
+
+-- src/card.rt:30:9
+returns-2 : tie.Need-returns-2
+unfolding headFits
+returns-2 c = simp (le-ltb _ _ (c .before .if1 .left), lt-ltb _ _ (c .if2 .taken))
+
+-- src/card.rt:23:1
+returns-3 : tie.Need-returns-3
+unfolding headFits
+returns-3 c = simp (le-ltb _ _ (c .before .if1 .left), le-ltb _ _ (c .if2 .left))
+
+pub head-fits-spec : {M : Type 1} → statement M
+head-fits-spec = tie.close (tie.spec returns returns-2 returns-3)

@@ -1,0 +1,24 @@
+use borrow.Author.Needs.{needs}
+use Rattle.sets.proofs.full.Statement.{statement}
+use Rattle.sets.proofs.full.Tie as tie
+use Rattle.sets.proofs.full.Reads as reads
+use Rattle.sets.proofs.full.Lts as lts
+
+-- src/lib.rt:551:21
+shl-above : tie.Need-shl-above
+shl-above c = search needs
+
+-- src/lib.rt:552:16
+sub-result : tie.Need-sub-result
+sub-result c = ?
+
+-- src/lib.rt:552:9
+returns : tie.Need-returns
+returns c = ?
+
+-- src/lib.rt:547:1
+returns-2 : tie.Need-returns-2
+returns-2 c = ?
+
+pub full-spec : {M : Type 1} → statement M
+full-spec = tie.close (tie.spec shl-above sub-result returns returns-2)
