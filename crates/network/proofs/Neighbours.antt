@@ -1,6 +1,6 @@
 -- The incoming neighbours that a set holds. The program counts with numbers and leaves out the members of the set itself; the paper counts
 -- with tests and does not. For sets that do not meet the two counts are one.
---     someBelow-same   tests that agree below n have a server of V together
+--     someBelow-same   of tests that agree below n both have a server of V, or neither
 --     held-count       the program's count is the paper's
 -- Assumes nothing.
 use mathlib.Core.Path.{_≡_, refl}
@@ -14,6 +14,14 @@ use Rattle.network.specs.Links.{Links, linkedIn}
 use Rattle.network.specs.Split.{someBelow, incoming, held}
 use Rattle.network.specs.Condition.{neighbour}
 
+-- the number s has the members of p below n
+abbrev pub Agree : ℕ → ℕ → Set → Type 0
+Agree n s p = (i : ℕ) → i < n → has s i ≡ p i
+
+-- no server of V is in both
+abbrev pub Apart : ℕ → Set → Set → Type 0
+Apart n p q = (i : ℕ) → i < n → In p i → In q i → ⊥
+
 pub someBelow-same : (n : ℕ) (p q : Set) → ((i : ℕ) → i < n → p i ≡ q i) → someBelow n p ≡ someBelow n q
 unfolding someBelow
 someBelow-same zero p q h = refl
@@ -23,14 +31,13 @@ someBelow-same (suc n) p q h =
     cc
 
 module _ (n : ℕ) (links : Links) (a s : ℕ) (A B : Set) where
-  -- a and s are the numbers of A and B
-  same-neighbour : ((i : ℕ) → i < n → has s i ≡ B i) → (u : ℕ)
+  same-neighbour : Agree n s B → (u : ℕ)
       → someBelow n (λ (v : ℕ). has s v && linkedIn links u v) ≡ neighbour n (linkedIn links) B u
   unfolding neighbour
   same-neighbour hs u =
       someBelow-same n (λ (v : ℕ). has s v && linkedIn links u v) (λ (v : ℕ). B v && linkedIn links u v) (λ i k. let e = hs i k in cc)
 
-  same-held : ((i : ℕ) → i < n → has a i ≡ A i) → ((i : ℕ) → i < n → has s i ≡ B i) → ((i : ℕ) → i < n → In A i → In B i → ⊥)
+  same-held : Agree n a A → Agree n s B → Apart n A B
       → (u : ℕ) → u < n → (has a u && incoming n links s u) ≡ (A u && neighbour n (linkedIn links) B u)
   unfolding incoming
   same-held ha hs apart u k =
@@ -41,7 +48,7 @@ module _ (n : ℕ) (links : Links) (a s : ℕ) (A B : Set) where
       (λ x. let y = is-false (B u) (apart u k x) in cc)
       (λ x. cc)
 
-  pub held-count : ((i : ℕ) → i < n → has a i ≡ A i) → ((i : ℕ) → i < n → has s i ≡ B i) → ((i : ℕ) → i < n → In A i → In B i → ⊥)
+  pub held-count : Agree n a A → Agree n s B → Apart n A B
       → held n links a s ≡ count n (λ (u : ℕ). A u && neighbour n (linkedIn links) B u)
   unfolding held
   held-count ha hs apart =

@@ -20,15 +20,7 @@ use Rattle.network.specs.Links.{Links, linkedIn}
 use Rattle.network.specs.Split.{rest, held, isSplit, isBad}
 use Rattle.network.specs.Condition.{neighbour, Arrow, joined, Partition, Some, Broken}
 use Rattle.network.proofs.Search.{breaks}
-use Rattle.network.proofs.Neighbours.{held-count}
-
--- a set and its number
-abbrev pub Agree : ℕ → ℕ → Set → Type 0
-Agree n s p = (i : ℕ) → i < n → has s i ≡ p i
-
--- two sets without a common server of V
-abbrev pub Apart : ℕ → Set → Set → Type 0
-Apart n p q = (i : ℕ) → i < n → In p i → In q i → ⊥
+use Rattle.network.proofs.Neighbours.{Agree, Apart, held-count}
 
 -- emptiness
 
