@@ -1,11 +1,13 @@
 -- Marks         marks past a row's end, or past the rows
 -- Reading       the card reader's loop: what is left to read gives the answer of the whole
+-- Accepted      what the commands of an accepted card are, and the loop that collects its links
 -- Search        what a search over one range, and over three nested ones, finds
 -- Neighbours    counts of incoming neighbours, of numbers and of arbitrary sets
 -- Partitions    splits of numbers against partitions into arbitrary sets
 -- Theorem       the first bad split against Theorem 1's condition
 mod Marks
 pub mod Reading
+pub mod Accepted
 pub mod Search
 pub mod Neighbours
 pub mod Partitions

@@ -36,8 +36,11 @@ module _ {s : List ℕ} {at n f : ℕ} {links : Links} (r : Reading s at n f lin
   unfolding commands
   reading-step = r .left
 
+  pub reading-answer : (answer : Network) → stepAt s at n f links ≡ done answer → answer ≡ readCard s
+  reading-answer answer e = sym (commands-done (r .fuel) s answer) ∙ ap (commands (r .fuel) s) (sym e) ∙ reading-step
+
   pub reading-ends : (answer : Network) → stepAt s at n f links ≡ done answer → headOf answer ≡ headOf (readCard s)
-  reading-ends answer e = ap headOf (sym (commands-done (r .fuel) s answer) ∙ ap (commands (r .fuel) s) (sym e) ∙ reading-step)
+  reading-ends answer e = ap headOf (reading-answer answer e)
 
   pub reading-goes : (at′ n′ f′ : ℕ) (links′ : Links) → stepAt s at n f links ≡ more at′ n′ f′ links′ → at < at′ → at′ ≤ length s → Reading s at′ n′ f′ links′
   reading-goes at′ n′ f′ links′ e h k = go (r .fuel) (r .enough) (ap (commands (r .fuel) s) (sym e) ∙ reading-step)

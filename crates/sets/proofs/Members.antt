@@ -5,20 +5,21 @@
 --     has-full      the full set of n servers has the servers below n
 --     same-members  two sets below 2^n with the same members below n are equal
 --     encode-has    the number of a test has the test's members; encode-small bounds it
+--     has-single    server i alone has just i
 --     within-in     a subset's members are members; in-within the other way
 -- Assumes nothing.
 use mathlib.Core.Path.{_≡_, refl, sym, ap, _∙_}
 use mathlib.Core.Bool.{Bool, true, false, cond, not, _&&_, _||_}
 use Prim.Native.Nat.{ℕ, zero, suc, _+_, _-_, _*_, _/_, _%_, _^_, _≤_, _<_, min, max}
-use native.Mathlib.Nat.{pow-suc, add-comm}
+use native.Mathlib.Nat.{pow-suc, one-mul}
 use native.Mathlib.Numerals.{add-one}
 use native.Mathlib.Omega.{arith}
 use lib.Bits.{bitAnd, bitOr, bitXor, and-step, or-step, xor-step, and-shr, or-shr, xor-shr, differ, or-lt, xor-lt, and-lt, and-le-l}
-use lib.Pow.{shr-shr, pow-pos}
-use lib.Dec.{eqb, ltb, lit<}
+use lib.Pow.{shr-shr, shl-exact, pow-pos}
+use lib.Dec.{eqb, ltb, lit<, eqb·zero-suc, eqb·suc-zero, eqb·suc-suc}
 use borrow.Author.Tests.{lt-ltb, le-ltb, eq-eqb, eqb-true, eqb-false, ltb-true, ltb-false}
 use Rattle.facts.proofs.Bools.{cases, clash, same, and-left, and-right, both}
-use Rattle.sets.specs.Sets.{Set, In, Out, has, union, meet, minus, within, full, encode}
+use Rattle.sets.specs.Sets.{Set, In, Out, has, single, union, meet, minus, within, full, encode}
 
 -- `meet` is what the code computes
 meet-is : (a b : ℕ) → meet a b ≡ bitAnd a b
@@ -106,6 +107,42 @@ has-minus a b i =
 pub has-empty : (i : ℕ) → has 0 i ≡ false
 has-empty zero = has-zero 0
 has-empty (suc i) = has-suc 0 i ∙ has-empty i
+
+has-power : (i j : ℕ) → has (2 ^ i) j ≡ eqb i j
+has-power zero zero = has-zero 1
+has-power zero (suc j) = has-suc 1 j ∙ has-empty j ∙ sym (eqb·zero-suc j)
+has-power (suc i) zero =
+    let e = pow-double i in
+    let even : 2 ^ suc i % 2 ≡ 0 = omega arith in
+    has-zero (2 ^ suc i) ∙ ap (λ (d : ℕ). eqb d 1) even ∙ sym (eqb·suc-zero i)
+has-power (suc i) (suc j) =
+    let e = pow-double i in
+    let half : 2 ^ suc i / 2 ≡ 2 ^ i = omega arith in
+    has-suc (2 ^ suc i) j ∙ ap (λ (s : ℕ). has s j) half ∙ has-power i j ∙ sym (eqb·suc-suc i j)
+
+pub has-single : (i j : ℕ) → has (single i) j ≡ (ltb i 8 && eqb i j)
+unfolding single
+has-single i j = cases (ltb i 8) (λ e. rw e (has-power i j)) (λ e. rw e (has-empty j))
+
+-- a one that is shifted within a byte
+pub one-shifted : (i : ℕ) → i < 8 → 1 * 2 ^ i % 2 ^ 8 ≡ 2 ^ i
+one-shifted i h = shl-exact {a = 1} 1 i 8 (lit< tt) (omega arith) ∙ one-mul (2 ^ i)
+
+pub single-is : (i : ℕ) → i < 8 → 1 * 2 ^ i % 2 ^ 8 ≡ single i
+unfolding single
+single-is i h = rw (lt-ltb i 8 h) (one-shifted i h)
+
+pub single-past : (i : ℕ) → 8 ≤ i → 0 ≡ single i
+unfolding single
+single-past i h = rw (le-ltb i 8 h) refl
+
+pub full-is : (n : ℕ) → n < 8 → 1 * 2 ^ n % 2 ^ 8 - 1 ≡ full (min n 8)
+unfolding full
+full-is n h = let e = one-shifted n h in let m : min n 8 ≡ n = omega arith in rw m (omega arith)
+
+pub full-past : (n : ℕ) → 8 ≤ n → 255 ≡ full (min n 8)
+unfolding full
+full-past n h = let m : min n 8 ≡ 8 = omega arith in rw m refl
 
 -- bounds of the operations
 

@@ -1,3 +1,6 @@
+use native.Mathlib.Omega.{arith}
+use lib.Pow.{pow-pos}
+use Rattle.sets.proofs.Members.{one-shifted, full-is, full-past}
 use borrow.Author.Needs.{needs}
 use Rattle.sets.proofs.full.Statement.{statement}
 use Rattle.sets.proofs.full.Tie as tie
@@ -10,15 +13,15 @@ shl-above c = search needs
 
 -- src/lib.rt:552:16
 sub-result : tie.Need-sub-result
-sub-result c = ?
+sub-result c = let e = one-shifted _ (c .if1 .taken) in let p = pow-pos (c .before .args .n) in omega arith
 
 -- src/lib.rt:552:9
 returns : tie.Need-returns
-returns c = ?
+returns c = full-is _ (c .if1 .taken)
 
 -- src/lib.rt:547:1
 returns-2 : tie.Need-returns-2
-returns-2 c = ?
+returns-2 c = full-past _ (c .if1 .left)
 
 pub full-spec : {M : Type 1} → statement M
 full-spec = tie.close (tie.spec shl-above sub-result returns returns-2)

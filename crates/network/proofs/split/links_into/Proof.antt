@@ -11,39 +11,39 @@ Inv-loop s rows all₀ v₀ all v = ?
 abbrev μ-loop : tie.MeasureT-loop
 μ-loop s rows all₀ v₀ all v = ?
 
--- src/split.rt:40:5
+-- src/split.rt:58:5
 loop-holds : tie.Need-loop-holds Inv-loop μ-loop
 loop-holds c = ?
 
--- src/split.rt:41:12
+-- src/split.rt:59:12
 member-requires : tie.Need-member-requires Inv-loop μ-loop
 member-requires c κs = ?
 
--- src/split.rt:42:23
-cast-row : tie.Need-cast-row Inv-loop μ-loop
-cast-row c = ?
+-- src/split.rt:60:22
+cast-at : tie.Need-cast-at Inv-loop μ-loop
+cast-at c = ?
 
--- src/split.rt:43:36
+-- src/split.rt:61:36
 array-read-union : tie.Need-array-read-union Inv-loop μ-loop
 array-read-union c = ?
 
--- src/split.rt:43:13
+-- src/split.rt:61:13
 union-requires : tie.Need-union-requires Inv-loop μ-loop
 union-requires c κs = ?
 
--- src/split.rt:40:9
+-- src/split.rt:58:9
 add-v : tie.Need-add-v Inv-loop μ-loop
 add-v c = ?
 
--- src/split.rt:40:5
+-- src/split.rt:58:5
 loop-less : tie.Need-loop-less Inv-loop μ-loop
 loop-less c = ?
 
--- src/split.rt:40:5
+-- src/split.rt:58:5
 loop-again : tie.Need-loop-again Inv-loop μ-loop
 loop-again c = ?
 
--- src/split.rt:38:1
+-- src/split.rt:54:1
 returns : tie.Need-returns Inv-loop μ-loop
 returns c = ?
 
@@ -55,7 +55,7 @@ links-into-spec =
     μ-loop
     loop-holds
     member-requires
-    cast-row
+    cast-at
     array-read-union
     union-requires
     add-v

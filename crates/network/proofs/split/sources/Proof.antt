@@ -3,43 +3,44 @@ use Rattle.network.proofs.split.sources.Tie as tie
 use Rattle.network.proofs.split.sources.Reads as reads
 use Rattle.network.proofs.split.sources.Lts as lts
 use Rattle.network.proofs.links.linked.Reads as linked-reads
+use Rattle.sets.proofs.single.Reads as single-reads
 use Rattle.sets.proofs.union.Reads as union-reads
 
 abbrev Inv-loop : tie.InvT-loop
-Inv-loop n links v s₀ u₀ s u = ?
+Inv-loop n links v row₀ u₀ row u = ?
 
 abbrev μ-loop : tie.MeasureT-loop
-μ-loop n links v s₀ u₀ s u = ?
+μ-loop n links v row₀ u₀ row u = ?
 
--- src/split.rt:19:5
+-- src/split.rt:31:5
 loop-holds : tie.Need-loop-holds Inv-loop μ-loop
 loop-holds c = ?
 
--- src/split.rt:20:12
+-- src/split.rt:32:12
 linked-requires : tie.Need-linked-requires Inv-loop μ-loop
 linked-requires c κs = ?
 
--- src/split.rt:21:32
-shl-union : tie.Need-shl-union Inv-loop μ-loop
-shl-union c = ?
+-- src/split.rt:33:36
+single-requires : tie.Need-single-requires Inv-loop μ-loop
+single-requires c κs = ?
 
--- src/split.rt:21:13
+-- src/split.rt:33:13
 union-requires : tie.Need-union-requires Inv-loop μ-loop
 union-requires c κs = ?
 
--- src/split.rt:19:9
+-- src/split.rt:31:9
 add-u : tie.Need-add-u Inv-loop μ-loop
 add-u c = ?
 
--- src/split.rt:19:5
+-- src/split.rt:31:5
 loop-less : tie.Need-loop-less Inv-loop μ-loop
 loop-less c = ?
 
--- src/split.rt:19:5
+-- src/split.rt:31:5
 loop-again : tie.Need-loop-again Inv-loop μ-loop
 loop-again c = ?
 
--- src/split.rt:17:1
+-- src/split.rt:26:1
 returns : tie.Need-returns Inv-loop μ-loop
 returns c = ?
 
@@ -51,7 +52,7 @@ sources-spec =
     μ-loop
     loop-holds
     linked-requires
-    shl-union
+    single-requires
     union-requires
     add-u
     loop-less
