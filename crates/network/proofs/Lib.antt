@@ -3,12 +3,16 @@
 -- Accepted      what the commands of an accepted card are, and the loop that collects its links
 -- Search        what a search over one range, and over three nested ones, finds
 -- Neighbours    counts of incoming neighbours, of numbers and of arbitrary sets
+-- SourceRows    the rows of sources, as the code makes and reads them
 -- Partitions    splits of numbers against partitions into arbitrary sets
+-- Weakness      why the split test may look at one side at a time
 -- Theorem       the first bad split against Theorem 1's condition
 mod Marks
 pub mod Reading
 pub mod Accepted
 pub mod Search
 pub mod Neighbours
+mod SourceRows
 pub mod Partitions
+mod Weakness
 pub mod Theorem
