@@ -102,7 +102,7 @@ pub record Collecting (s : List ℕ) (at : ℕ) (links : Links) : Type 0 where
   pub ok : Accepted s
   pub later : 0 < at
 
-accepted-short : (s : List ℕ) → Accepted s → length s ≤ 1024
+pub accepted-short : (s : List ℕ) → Accepted s → length s ≤ 1024
 unfolding readCard
 accepted-short s ok =
     cases (ltb 1024 (length s)) (λ e. absurd (ok (card 1 0) (simp e))) (λ e. ltb-false 1024 (length s) e)

@@ -1,11 +1,13 @@
 -- Links        the links of a network as rows of marks
 -- Card         what a card's bytes give: the network or the refusal
+-- Proper       what holds of the network of every accepted card
 -- Split        the splits of V in their order, and the first bad one
 -- Weak         what makes the split test fast
 -- Condition    Theorem 1 of the paper, over arbitrary sets
 -- Answers      what the code's answers stand for
 pub mod Links
 pub mod Card
+pub mod Proper
 pub mod Split
 pub mod Weak
 pub mod Condition

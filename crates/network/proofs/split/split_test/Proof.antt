@@ -1,4 +1,11 @@
+use mathlib.Core.Path.{_≡_, refl, sym, ap, _∙_}
+use mathlib.Core.Logic.{_⊎_, inl, inr, ⊎-elim}
+use mathlib.Core.Bool.{Bool, true, false}
+use Prim.Native.Nat.{ℕ, _+_, _-_, _≤_, _<_}
+use native.Mathlib.Omega.{arith}
 use borrow.Author.Needs.{needs}
+use Rattle.network.specs.Answers.{readingOf}
+use Rattle.network.proofs.Heads.{head-proper, refused-split, network-split}
 use Rattle.network.proofs.split.split_test.Statement.{statement}
 use Rattle.network.proofs.split.split_test.Tie as tie
 use Rattle.network.proofs.split.split_test.Reads as reads
@@ -25,15 +32,15 @@ card-links-requires c κs = search needs
 
 -- src/split.rt:133:13
 first-bad-requires : tie.Need-first-bad-requires
-first-bad-requires c κs = ?
+first-bad-requires c κs = head-proper _ _ _ (sym (c .before .before .before .before .read-card .ensures) ∙ ap readingOf (c .before .before .reading2 .given .1)) .most
 
 -- src/split.rt:125:1
 returns : tie.Need-returns
-returns c = ?
+returns c = refused-split _ _ (sym (c .before .before .before .read-card .ensures) ∙ ap readingOf (c .before .reading .given .1))
 
 -- src/split.rt:125:1
 returns-2 : tie.Need-returns-2
-returns-2 c = ?
+returns-2 c = c .first-bad .ensures ∙ network-split _ _ _ _ (sym (c .before .before .before .before .before .read-card .ensures) ∙ ap readingOf (c .before .before .before .reading2 .given .1)) (c .before .card-links .ensures)
 
 pub split-test-spec : {M : Type 1} → statement M
 split-test-spec =

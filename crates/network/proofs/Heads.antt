@@ -1,0 +1,32 @@
+-- What the reader's answer says of the split test: a refusal is handed on, and n, f and the links of an accepted card give the first bad split.
+-- Assumes nothing.
+use mathlib.Core.Path.{_≡_, refl, sym, ap, _∙_}
+use mathlib.Core.List.{List}
+use Prim.Native.Nat.{ℕ, _≤_}
+use native.Mathlib.Omega.{arith}
+use Rattle.refusal.specs.Refused.{Refused}
+use Rattle.network.specs.Links.{Links}
+use Rattle.network.specs.Card.{Network, network, refused, readCard, Head, head, turned, headOf, linksOf}
+use Rattle.network.specs.Split.{Split, unread, firstBad, splitOf, splitTest}
+use Rattle.network.specs.Proper.{Proper}
+use Rattle.network.proofs.Networks.{card-proper}
+
+-- with n, f and the links known, so is the network
+pub network-of : (a : Network) (n f : ℕ) → headOf a ≡ head n f → a ≡ network n f (linksOf a)
+network-of (network m g links) n f e = let p : m ≡ n = cc in let q : g ≡ f = cc in cc
+network-of (refused r) n f e = cc
+
+pub refused-of : (a : Network) (r : Refused) → headOf a ≡ turned r → a ≡ refused r
+refused-of (network m g links) r e = cc
+refused-of (refused x) r e = let p : x ≡ r = cc in cc
+
+pub head-proper : (s : List ℕ) (n f : ℕ) → headOf (readCard s) ≡ head n f → Proper n f (linksOf (readCard s))
+head-proper s n f e = card-proper s n f (linksOf (readCard s)) (network-of (readCard s) n f e)
+
+pub refused-split : (s : List ℕ) (r : Refused) → headOf (readCard s) ≡ turned r → unread r ≡ splitTest s
+unfolding splitTest
+refused-split s r e = ap splitOf (sym (refused-of (readCard s) r e))
+
+pub network-split : (s : List ℕ) (n f : ℕ) (links : Links) → headOf (readCard s) ≡ head n f → links ≡ linksOf (readCard s) → firstBad n f links ≡ splitTest s
+unfolding splitTest
+network-split s n f links e q = ap (firstBad n f) q ∙ ap splitOf (sym (network-of (readCard s) n f e))
