@@ -89,7 +89,7 @@ module _ (s : List ℕ) (ok : Accepted s) (n′ f′ : ℕ) (links′ : Links) (
       go (inr (inr w)) = same-network (reading-answer r (network n f links) (w .step) ∙ is) p
   proper-from (suc k) at n f links h z r p =
       let on : (links″ : Links) → Reading s (at + 3) n f links″ → Proper n f links″ → Proper n′ f′ links′ =
-          λ links″ r″ p″. proper-from k (at + 3) n f links″ (omega arith) (omega arith) r″ p″ in
+      λ links″ r″ p″. proper-from k (at + 3) n f links″ (omega arith) (omega arith) r″ p″ in
       go on (outcome r ok)
     where
       go : ((links″ : Links) → Reading s (at + 3) n f links″ → Proper n f links″ → Proper n′ f′ links′) → Headed r ok ⊎ (Linked r ok ⊎ Ended r ok) → Proper n′ f′ links′

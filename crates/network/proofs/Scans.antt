@@ -104,8 +104,13 @@ module _ (n f : ℕ) (rows : List ℕ) (limit : ℕ) where
   pub scan-starts : n ≤ 8 → limit ≡ 2 ^ n → Scan 0
   unfolding firstBad
   scan-starts h e =
-      record { few = h; limit-is = e; inside = omega arith; left = λ links so.
-          orElse-good (firstFrom (limit - 0) 0 (badWithFaults n f links)) ∙ (let z : limit - 0 ≡ 2 ^ n = omega arith in ap (λ (m : ℕ). firstFrom m 0 (badWithFaults n f links)) z) }
+      record {
+        few = h;
+        limit-is = e;
+        inside = omega arith;
+        left = λ links so.
+            orElse-good (firstFrom (limit - 0) 0 (badWithFaults n f links)) ∙ (let z : limit - 0 ≡ 2 ^ n = omega arith in ap (λ (m : ℕ). firstFrom m 0 (badWithFaults n f links)) z);
+      }
 
   pub scan-ends : (i : ℕ) → Scan i → limit ≤ i → (links : Links) → Sources n links rows → good ≡ firstBad n f links
   scan-ends i s h links so = left-done limit i (badWithFaults n f links) good (firstBad n f links) (s .left links so) h
@@ -113,44 +118,93 @@ module _ (n f : ℕ) (rows : List ℕ) (limit : ℕ) where
   module _ (i : ℕ) (s : Scan i) (h : i < limit) (k : ℕ) (e : k ≡ size i) where
     pub scan-past : f < k → Scan (i + 1)
     scan-past q =
-        record { few = s .few; limit-is = s .limit-is; inside = omega arith; left = λ links so.
-            left-past limit i (badWithFaults n f links) good (firstBad n f links) (s .left links so) h (no-faults n f links i (lt-leb (size i) f (omega arith))) }
+        record {
+          few = s .few;
+          limit-is = s .limit-is;
+          inside = omega arith;
+          left = λ links so.
+              left-past limit i (badWithFaults n f links) good (firstBad n f links) (s .left links so) h (no-faults n f links i (lt-leb (size i) f (omega arith)));
+        }
 
     pub sides-start : k ≤ f → Sides i 0
     unfolding badWithFaults
     sides-start q =
-        record { few = s .few; limit-is = s .limit-is; i-inside = h; inside = omega arith; small = le-leb (size i) f (omega arith); left = λ links so.
-            left-into limit i (badWithFaults n f links) good (firstBad n f links) (s .left links so) h (badWithSides n f links i) (ap (λ (m : ℕ). firstFrom m 0 (badWithSides n f links i)) (sym (s .limit-is))) }
+        record {
+          few = s .few;
+          limit-is = s .limit-is;
+          i-inside = h;
+          inside = omega arith;
+          small = le-leb (size i) f (omega arith);
+          left = λ links so.
+              left-into limit i (badWithFaults n f links) good (firstBad n f links) (s .left links so) h (badWithSides n f links i) (ap (λ (m : ℕ). firstFrom m 0 (badWithSides n f links i)) (sym (s .limit-is)));
+        }
 
   pub sides-end : (i j : ℕ) → Sides i j → limit ≤ j → Scan (i + 1)
   sides-end i j s h =
       let a = s .i-inside in
-      record { few = s .few; limit-is = s .limit-is; inside = omega arith; left = λ links so.
-          left-done limit j (badWithSides n f links i) (beyond limit i (badWithFaults n f links) good) (firstBad n f links) (s .left links so) h }
+      record {
+        few = s .few;
+        limit-is = s .limit-is;
+        inside = omega arith;
+        left = λ links so.
+            left-done limit j (badWithSides n f links i) (beyond limit i (badWithFaults n f links) good) (firstBad n f links) (s .left links so) h;
+      }
 
   module _ (i j : ℕ) (s : Sides i j) (h : j < limit) (b : Bool) (t : Tells b i j) where
     pub sides-past : b ≡ false → Sides i (j + 1)
     sides-past q =
-        record { few = s .few; limit-is = s .limit-is; i-inside = s .i-inside; inside = omega arith; small = s .small; left = λ links so.
-            left-past limit j (badWithSides n f links i) (beyond limit i (badWithFaults n f links) good) (firstBad n f links) (s .left links so) h (no-sides n f links i j (sym (t n links (s .few) so) ∙ q)) }
+        record {
+          few = s .few;
+          limit-is = s .limit-is;
+          i-inside = s .i-inside;
+          inside = omega arith;
+          small = s .small;
+          left = λ links so.
+              left-past limit j (badWithSides n f links i) (beyond limit i (badWithFaults n f links) good) (firstBad n f links) (s .left links so) h (no-sides n f links i j (sym (t n links (s .few) so) ∙ q));
+        }
 
     pub splits-start : b ≡ true → Splits i j 0
     unfolding badWithSides
     splits-start q =
-        record { few = s .few; limit-is = s .limit-is; i-inside = s .i-inside; j-inside = h; inside = omega arith; small = s .small; weakL = λ links so. sym (t n links (s .few) so) ∙ q; left = λ links so.
-            left-into limit j (badWithSides n f links i) (beyond limit i (badWithFaults n f links) good) (firstBad n f links) (s .left links so) h (badAt n f links i j) (ap (λ (m : ℕ). firstFrom m 0 (badAt n f links i j)) (sym (s .limit-is))) }
+        record {
+          few = s .few;
+          limit-is = s .limit-is;
+          i-inside = s .i-inside;
+          j-inside = h;
+          inside = omega arith;
+          small = s .small;
+          weakL = λ links so. sym (t n links (s .few) so) ∙ q;
+          left = λ links so.
+              left-into limit j (badWithSides n f links i) (beyond limit i (badWithFaults n f links) good) (firstBad n f links) (s .left links so) h (badAt n f links i j) (ap (λ (m : ℕ). firstFrom m 0 (badAt n f links i j)) (sym (s .limit-is)));
+        }
 
   pub splits-end : (i j k : ℕ) → Splits i j k → limit ≤ k → Sides i (j + 1)
   splits-end i j k s h =
       let a = s .j-inside in
-      record { few = s .few; limit-is = s .limit-is; i-inside = s .i-inside; inside = omega arith; small = s .small; left = λ links so.
-          left-done limit k (badAt n f links i j) (beyond limit j (badWithSides n f links i) (beyond limit i (badWithFaults n f links) good)) (firstBad n f links) (s .left links so) h }
+      record {
+        few = s .few;
+        limit-is = s .limit-is;
+        i-inside = s .i-inside;
+        inside = omega arith;
+        small = s .small;
+        left = λ links so.
+            left-done limit k (badAt n f links i j) (beyond limit j (badWithSides n f links i) (beyond limit i (badWithFaults n f links) good)) (firstBad n f links) (s .left links so) h;
+      }
 
   module _ (i j k : ℕ) (s : Splits i j k) (h : k < limit) where
     passed : ((links : Links) → Sources n links rows → badAt n f links i j k ≡ good) → Splits i j (k + 1)
     passed q =
-        record { few = s .few; limit-is = s .limit-is; i-inside = s .i-inside; j-inside = s .j-inside; inside = omega arith; small = s .small; weakL = s .weakL; left = λ links so.
-            left-past limit k (badAt n f links i j) (beyond limit j (badWithSides n f links i) (beyond limit i (badWithFaults n f links) good)) (firstBad n f links) (s .left links so) h (q links so) }
+        record {
+          few = s .few;
+          limit-is = s .limit-is;
+          i-inside = s .i-inside;
+          j-inside = s .j-inside;
+          inside = omega arith;
+          small = s .small;
+          weakL = s .weakL;
+          left = λ links so.
+              left-past limit k (badAt n f links i j) (beyond limit j (badWithSides n f links i) (beyond limit i (badWithFaults n f links) good)) (firstBad n f links) (s .left links so) h (q links so);
+        }
 
     module _ (m : ℕ) (e : m ≡ meet j k) where
       pub splits-meeting : (m ≡ 0 → ⊥) → Splits i j (k + 1)
@@ -168,7 +222,7 @@ module _ (n f : ℕ) (rows : List ℕ) (limit : ℕ) where
             let w : min n 8 ≡ n = small-min n (s .few) in
             let v : rest n i j k ≡ c = ap (λ (x : ℕ). minus (minus (full x) i) (union j k)) (sym w) ∙ cc in
             let here : badAt n f links i j k ≡ bad i j (rest n i j k) k =
-                bad-here n f links i j k (s .small) (s .weakL links so) (sym (t n links (s .few) so) ∙ q) (ap (λ (x : ℕ). eqb x 0) (sym e) ∙ eq-eqb m 0 o) in
+            bad-here n f links i j k (s .small) (s .weakL links so) (sym (t n links (s .few) so) ∙ q) (ap (λ (x : ℕ). eqb x 0) (sym e) ∙ eq-eqb m 0 o) in
             let all = left-turn limit k (badAt n f links i j) (beyond limit j (badWithSides n f links i) (beyond limit i (badWithFaults n f links) good)) (firstBad n f links) (s .left links so) h in
             ap (λ (x : ℕ). bad i j x k) (sym v)
             ∙ ap (λ (x : Split). orElse x (beyond limit k (badAt n f links i j) (beyond limit j (badWithSides n f links i) (beyond limit i (badWithFaults n f links) good)))) (sym here)

@@ -118,12 +118,13 @@ loop2-less c = search needs
 loop2-again : tie.Need-loop2-again Inv-loop2 μ-loop2 Inv-loop μ-loop Inv-scan μ-scan
 loop2-again c = let l = c .before .before .before .loop2 in
     let t = c .before .before .loop2-test .taken in
-    let m = c .before .meet in
-    (l .inv .0,
-    ⊎-elim
-    (λ w. splits-past _ _ _ _ _ _ _ (l .inv .1) t _ (m .ensures) _ (w .1 .ensures) (w .2 .left))
-    (λ w. splits-meeting _ _ _ _ _ _ _ (l .inv .1) t _ (m .ensures) (w .left))
-    (c .if3 .came))
+    let m = c .before .meet in (
+      l .inv .0,
+      ⊎-elim
+          (λ w. splits-past _ _ _ _ _ _ _ (l .inv .1) t _ (m .ensures) _ (w .1 .ensures) (w .2 .left))
+          (λ w. splits-meeting _ _ _ _ _ _ _ (l .inv .1) t _ (m .ensures) (w .left))
+          (c .if3 .came),
+    )
 
 -- src/split.rt:97:17
 add-j : tie.Need-add-j Inv-loop2 μ-loop2 Inv-loop μ-loop Inv-scan μ-scan

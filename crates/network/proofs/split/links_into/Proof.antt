@@ -50,12 +50,13 @@ loop-less c = search needs
 loop-again : tie.Need-loop-again Inv-loop μ-loop
 loop-again c = let a = c .before .before .before .before .args in
     let l = c .before .before .before .loop in
-    let d = c .before .member in
-    (omega arith,
-    ⊎-elim
-    (λ w. into-joins (a .t1) (a .s) (l .v) (l .all) (l .inv .1) (d .result) (d .ensures) (w .0 .taken) (c .if1 .all) (w .2 ∙ w .1 .ensures))
-    (λ w. rw (w .1) (into-passes (a .t1) (a .s) (l .v) (l .all) (l .inv .1) (d .result) (d .ensures) (w .0 .left)))
-    (c .if1 .came))
+    let d = c .before .member in (
+      omega arith,
+      ⊎-elim
+          (λ w. into-joins (a .t1) (a .s) (l .v) (l .all) (l .inv .1) (d .result) (d .ensures) (w .0 .taken) (c .if1 .all) (w .2 ∙ w .1 .ensures))
+          (λ w. rw (w .1) (into-passes (a .t1) (a .s) (l .v) (l .all) (l .inv .1) (d .result) (d .ensures) (w .0 .left)))
+          (c .if1 .came),
+    )
 
 -- src/split.rt:54:1
 returns : tie.Need-returns Inv-loop μ-loop

@@ -47,12 +47,13 @@ loop-less c = search needs
 loop-again : tie.Need-loop-again Inv-loop μ-loop
 loop-again c = let a = c .before .before .before .before .args in
     let l = c .before .before .before .loop in
-    let d = c .before .linked in
-    (omega arith,
-    ⊎-elim
-    (λ w. to-joins (a .links) (a .v) (l .u) (l .row) (l .inv .1) (d .result) (d .ensures) (omega arith) (w .0 .taken) (w .1 .result) (c .if1 .row) (w .1 .ensures) (w .3 ∙ w .2 .ensures))
-    (λ w. rw (w .1) (to-passes (a .links) (a .v) (l .u) (l .row) (l .inv .1) (d .result) (d .ensures) (w .0 .left)))
-    (c .if1 .came))
+    let d = c .before .linked in (
+      omega arith,
+      ⊎-elim
+          (λ w. to-joins (a .links) (a .v) (l .u) (l .row) (l .inv .1) (d .result) (d .ensures) (omega arith) (w .0 .taken) (w .1 .result) (c .if1 .row) (w .1 .ensures) (w .3 ∙ w .2 .ensures))
+          (λ w. rw (w .1) (to-passes (a .links) (a .v) (l .u) (l .row) (l .inv .1) (d .result) (d .ensures) (w .0 .left)))
+          (c .if1 .came),
+    )
 
 -- src/split.rt:26:1
 returns : tie.Need-returns Inv-loop μ-loop

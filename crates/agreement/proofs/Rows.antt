@@ -1,0 +1,16 @@
+-- The words of a refusal, from what the refusal crate says of it.
+-- Assumes nothing.
+use mathlib.Core.Path.{_≡_, refl, sym, ap, _∙_}
+use mathlib.Core.List.{List, [], _∷_}
+use Prim.Native.Nat.{ℕ}
+use Rattle.refusal.specs.Refused.{Refused, whoseOf, numberOf, placeOf}
+use Rattle.network.specs.Card.{Head, turned}
+use Rattle.network.specs.Split.{Split, unread}
+use Rattle.agreement.specs.Words.{headWords, splitWords}
+
+module _ (r : Refused) (w m p : ℕ) (a : w ≡ whoseOf r) (b : m ≡ numberOf r) (c : p ≡ placeOf r) where
+  pub head-refused : (h : Head) → h ≡ turned r → 2 ∷ w ∷ m ∷ p ∷ [] ≡ headWords h
+  head-refused h e = rw e (cc)
+
+  pub split-refused : (s : Split) → s ≡ unread r → 2 ∷ w ∷ m ∷ p ∷ 0 ∷ [] ≡ splitWords s
+  split-refused s e = rw e (cc)

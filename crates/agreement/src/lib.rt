@@ -1,0 +1,63 @@
+// The C interface: a static library that a server in C or Rust links. Every answer is a row of
+// words that the caller lends and this library fills; no call asks anything of its arguments.
+use network::card;
+use network::card::Reading;
+use network::split;
+use network::split::SplitAnswer;
+use refusal::Refusal;
+ghost use mathlib.Core.Path.{_≡_};
+ghost use Rattle.network.specs.Links.{linkedIn};
+ghost use Rattle.network.specs.Card.{readCard, headOf, linksOf};
+ghost use Rattle.network.specs.Split.{splitTest};
+ghost use Rattle.agreement.specs.Words.{headWords, splitWords};
+
+// Reads a card. The answer is 0, n, f, 0; or 2, what is at fault, the refusal's number, its place.
+#[no_mangle]
+pub extern "C" fn agreement_read_card(card: &[u8], answer: &mut [u64; 4])
+    ensures { λ r. ⌜ now (answer .exit) ≡ headWords (headOf (readCard (now (card .entry)))) ⌝ }
+{
+    let reading = card::read_card(card);
+    match reading {
+        Reading::Network { n, f } => {
+            *answer = [0, n as u64, f as u64, 0];
+        }
+        Reading::Refused(r) => {
+            let whose = refusal::whose(r);
+            let number = refusal::number(r);
+            let place = refusal::place(r);
+            *answer = [2, whose as u64, number as u64, place as u64];
+        }
+    }
+}
+
+// The card's network has a link from u to v; no link where the card is refused.
+#[no_mangle]
+pub extern "C" fn agreement_linked(card: &[u8], u: u8, v: u8) -> bool
+    ensures { λ r. ⌜ r ≡ linkedIn (linksOf (readCard (now (card .entry)))) u v ⌝ }
+{
+    let links = card::card_links(card);
+    network::links::linked(links, u, v)
+}
+
+// The split test. The answer is 0, 0, 0, 0, 0 where no split is bad; 1, F, L, C, R, the first bad
+// split; or 2, what is at fault, the refusal's number, its place, 0.
+#[no_mangle]
+pub extern "C" fn agreement_split_test(card: &[u8], answer: &mut [u64; 5])
+    ensures { λ r. ⌜ now (answer .exit) ≡ splitWords (splitTest (now (card .entry))) ⌝ }
+{
+    let tested = split::split_test(card);
+    match tested {
+        SplitAnswer::Good => {
+            *answer = [0, 0, 0, 0, 0];
+        }
+        SplitAnswer::Bad { f, l, c, r } => {
+            *answer = [1, f as u64, l as u64, c as u64, r as u64];
+        }
+        SplitAnswer::Refused(r) => {
+            let whose = refusal::whose(r);
+            let number = refusal::number(r);
+            let place = refusal::place(r);
+            *answer = [2, whose as u64, number as u64, place as u64, 0];
+        }
+    }
+}
