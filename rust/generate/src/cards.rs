@@ -69,17 +69,28 @@ pub fn network_card(rng: &mut Rng, n: u8, f: u8) -> Vec<u8> {
     card_of(n, f, &links)
 }
 
+/// A valid card of `n` servers and `f` faults with just `count` random links, in
+/// random order; with all of them if there cannot be so many.
+pub fn network_card_with(rng: &mut Rng, n: u8, f: u8, count: usize) -> Vec<u8> {
+    let mut links = all_links(n);
+    rng.shuffle(&mut links);
+    links.truncate(count);
+    card_of(n, f, &links)
+}
+
 /// The card of `n` servers and `f` faults with every link there can be.
 pub fn complete_card(n: u8, f: u8) -> Vec<u8> {
     card_of(n, f, &all_links(n))
 }
 
-fn all_links(n: u8) -> Vec<(u8, u8)> {
+/// Every link there can be between `n` servers, ascending.
+pub fn all_links(n: u8) -> Vec<(u8, u8)> {
     let pairs = (0..n).flat_map(|u| (0..n).map(move |v| (u, v)));
     pairs.filter(|(u, v)| u != v).collect()
 }
 
-fn card_of(n: u8, f: u8, links: &[(u8, u8)]) -> Vec<u8> {
+/// The card of `n` servers and `f` faults with these links, in this order.
+pub fn card_of(n: u8, f: u8, links: &[(u8, u8)]) -> Vec<u8> {
     let mut card = vec![OPENING, n, f];
     for &(u, v) in links {
         card.extend([LINK, u, v]);

@@ -14,7 +14,7 @@ mod rng;
 mod routes;
 
 pub use calls::{faulty, inputs, table};
-pub use cards::{card, complete_card, network_card};
+pub use cards::{all_links, card, card_of, complete_card, network_card, network_card_with};
 pub use damage::damaged_plan;
 pub use plans::plan;
 pub use rng::Rng;
