@@ -74,7 +74,8 @@ pub fn read_size(card: &[u8]) -> Result<(u8, u8), Refusal> {
 /// last one has a link.
 pub fn linked(card: &[u8], u: u8, v: u8) -> bool {
     // SAFETY: pointer and length are those of one live slice, which is only read;
-    // an empty slice's pointer is not null either. Any `u` and `v` are allowed.
+    // an empty slice's pointer is not null either. Any `u` and `v` are allowed, and
+    // C's bool, which comes back, is 0 or 1 as Rust's is.
     unsafe { library::agreement_linked(card.as_ptr(), card.len(), u, v) }
 }
 
@@ -122,5 +123,76 @@ fn refusal(whose: u64, number: u64, place: u64) -> Option<Refusal> {
         OF_PLAN => Some(Refusal::Plan { number, place }),
         OF_CALL => Some(Refusal::Call { number }),
         _ => None,
+    }
+}
+
+#[cfg(test)]
+mod tests {
+    use super::*;
+
+    #[test]
+    fn numbers_become_the_answers_they_stand_for() {
+        let of_card = Refusal::Card {
+            number: 6,
+            place: 87,
+        };
+        let bad = Split {
+            f: 1,
+            l: 2,
+            c: 0,
+            r: 4,
+        };
+        assert_eq!(size_or_refusal([0, 3, 1, 0]), Some(Ok((3, 1))));
+        assert_eq!(size_or_refusal([2, 0, 6, 87]), Some(Err(of_card)));
+        assert_eq!(split_or_refusal([0; 5]), Some(Ok(None)));
+        assert_eq!(split_or_refusal([1, 1, 2, 0, 4]), Some(Ok(Some(bad))));
+        assert_eq!(split_or_refusal([2, 0, 6, 87, 0]), Some(Err(of_card)));
+        let of_plan = Refusal::Plan {
+            number: 7,
+            place: 4,
+        };
+        assert_eq!(refusal(1, 7, 4), Some(of_plan));
+        assert_eq!(refusal(2, 13, 0), Some(Refusal::Call { number: 13 }));
+    }
+
+    #[test]
+    fn numbers_that_are_no_answer_are_noticed() {
+        for answer in [
+            [UNWRITTEN; 4],
+            [0, 3, 1, UNWRITTEN],
+            [0, 1, 0, 0],
+            [0, 9, 0, 0],
+            [0, 2, 3, 0],
+            [1, 2, 0, 0],
+            [2, 3, 6, 87],
+            [2, 0, 256, 87],
+        ] {
+            assert_eq!(size_or_refusal(answer), None, "{answer:?}");
+        }
+        for answer in [
+            [UNWRITTEN; 5],
+            [0, 0, 0, 0, UNWRITTEN],
+            [0, 0, 0, 0, 1],
+            [1, 0, 1, 0, 256],
+            [2, 0, 6, 87, 1],
+            [3, 0, 0, 0, 0],
+        ] {
+            assert_eq!(split_or_refusal(answer), None, "{answer:?}");
+        }
+    }
+
+    #[test]
+    fn small_networks_of_the_paper() {
+        let p1 = [0x01, 0x02, 0x00, 0x02, 0x00, 0x01, 0x03];
+        assert_eq!(read_size(&p1), Ok((2, 0)));
+        assert!(linked(&p1, 0, 1) && !linked(&p1, 1, 0));
+        assert_eq!(split_test(&p1), Ok(None));
+        let empty = Refusal::Card {
+            number: 2,
+            place: 0,
+        };
+        assert_eq!(read_card(&[]), Err(empty));
+        assert_eq!(split_test(&[]), Err(empty));
+        assert!(!linked(&[], 0, 1));
     }
 }

@@ -63,9 +63,10 @@ fn bad(f: u8, l: u8, c: u8, r: u8) -> Result<Option<Split>, Refusal> {
 
 /// The servers in a ring, each with a link to the five after it.
 ///
-/// No good network of eight servers and two faults has fewer links. For if a server
-/// R had at most four incoming neighbours, put two of them (or all, if fewer) in F
-/// and everyone else in L: R has at most two left, L only R, and the split is bad.
+/// No good network of eight servers and two faults has fewer links, since each server
+/// needs five incoming neighbours: had one at most four, then with that server as R,
+/// two of its neighbours as F and everyone else as L, at most two servers of L would
+/// have a link into R and only one is in R, so that the split would be bad.
 fn sparse_good_network() -> Vec<u8> {
     let links = all_links(N).into_iter();
     let kept: Vec<(u8, u8)> = links.filter(|&(u, v)| (v + N - u) % N <= 5).collect();
@@ -75,13 +76,14 @@ fn sparse_good_network() -> Vec<u8> {
 /// A network whose first bad split comes as late as one can, F 192 and L 28: all
 /// links except those from 2 to R and from 0 to L, L being {2, 3, 4} and R {0, 1, 5}.
 ///
-/// F 192 is the last fault set, {6, 7}. L and R must then have three servers each:
-/// were one of them smaller, it would be no less cut off with its at most two
-/// neighbours outside 6 and 7 as the fault set, which comes earlier, and the rest of
-/// V, facing at most two servers, could be the other side. L and R may change
-/// places, so the first bad split has L below R and 5 in R; of three servers below 5,
-/// {2, 3, 4} is the last set. A random search over 20,000 orders of taking links away
-/// until a split is bad found none later either.
+/// F 192 is {6, 7}, the last fault set. L and R have three servers each then. For if
+/// R had at most two, take R's incoming neighbours outside {6, 7}, which are at most
+/// two, as another fault set: only 6 and 7 are left to link into R, and the rest of V
+/// as L has at most the two of R against it, so this split is bad too and comes
+/// earlier. The same goes for L. Since L and R may change places, the first bad split
+/// has L below R, hence 5 in R, and the last three servers below 5 are {2, 3, 4}.
+/// A search over 20,000 random orders of taking links away until a split is bad found
+/// this split as the latest as well.
 fn late_bad_split() -> Vec<u8> {
     let removed = [(2, 0), (2, 1), (2, 5), (0, 2), (0, 3), (0, 4)];
     let links = all_links(N).into_iter();

@@ -20,9 +20,9 @@ pub fn given_cards() -> Tally {
     let mut tally = Tally::default();
     let lines = CARDS.lines().filter(|line| !line.starts_with('#'));
     for case in lines.map(parse) {
-        let reference = Answers::of_reference(&case.card);
         check("library", &case, &Answers::of_library(&case.card));
-        check("reference", &case, &reference);
+        check("reference", &case, &Answers::of_reference(&case.card));
+        // They are alike by now; this counts, and looks at links that cannot be.
         tally.compare(&case.card, format_args!("data/cards.tsv, {}", case.note));
     }
     tally

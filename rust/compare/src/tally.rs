@@ -48,7 +48,7 @@ impl Tally {
         self.count(&reference);
     }
 
-    pub(crate) fn count(&mut self, answers: &Answers) {
+    fn count(&mut self, answers: &Answers) {
         match answers.split {
             Ok(None) => self.without_bad_split += 1,
             Ok(Some(_)) => self.with_bad_split += 1,

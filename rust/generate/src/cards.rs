@@ -427,6 +427,17 @@ mod tests {
     }
 
     #[test]
+    fn networks_have_as_many_links_as_asked_for() {
+        let mut rng = Rng::new(7);
+        for count in 0..=56 {
+            let card = network_card_with(&mut rng, 8, 2, count);
+            assert_eq!(link_count(&card), count);
+            assert!(read_card(&card).is_ok());
+        }
+        assert_eq!(link_count(&network_card_with(&mut rng, 2, 0, 9)), 2);
+    }
+
+    #[test]
     fn every_maker_does_what_its_name_says() {
         let number = |card: &[u8]| match read_card(card) {
             Ok(_) => 0,
