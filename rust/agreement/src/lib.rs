@@ -1,0 +1,198 @@
+//! Safe functions over the proved library: the card reader and the split test.
+//!
+//! The library is written and proved in Rattle and linked as a static archive; its
+//! contracts, not this crate, say why the answers are right. What is done here is
+//! to hand the card over as pointer and length, and to put the numbers that come
+//! back into the types of the crate `reference`, so that both implementations can
+//! be called, and compared, in the same way.
+//!
+//! This is the only crate of the workspace with `unsafe` in it, one call a block.
+
+#![deny(unsafe_op_in_unsafe_fn)]
+
+use reference::{Network, Refusal, Split};
+
+/// The exported functions of `libagreement.a`, as its C declarations give them.
+mod library {
+    extern "C" {
+        /// Writes {0, n, f, 0}, or {2, whose, number, place} for a refusal.
+        pub fn agreement_read_card(card: *const u8, length: usize, answer: *mut [u64; 4]);
+
+        /// Whether the card is accepted and has a link from `u` to `v`.
+        pub fn agreement_linked(card: *const u8, length: usize, u: u8, v: u8) -> bool;
+
+        /// Writes {0, 0, 0, 0, 0} for no bad split, {1, F, L, C, R} for the first
+        /// one, or {2, whose, number, place, 0} for a refusal.
+        pub fn agreement_split_test(card: *const u8, length: usize, answer: *mut [u64; 5]);
+    }
+}
+
+/// What the first number of an answer says.
+const ACCEPTED: u64 = 0;
+const NO_BAD_SPLIT: u64 = 0;
+const BAD_SPLIT: u64 = 1;
+const REFUSED: u64 = 2;
+
+/// Whose fault a refusal is.
+const OF_CARD: u64 = 0;
+const OF_PLAN: u64 = 1;
+const OF_CALL: u64 = 2;
+
+/// Lent answers start out as this, which no answer holds: a number that the library
+/// left unwritten would be noticed.
+const UNWRITTEN: u64 = u64::MAX;
+
+/// Answers with the network that `card` describes, or with the first fault found
+/// from the front of the card.
+///
+/// The library hands out links one at a time, so this asks it once for each pair
+/// of servers; [`read_size`] does without them.
+pub fn read_card(card: &[u8]) -> Result<Network, Refusal> {
+    let (n, f) = read_size(card)?;
+    let mut links = [[false; 8]; 8];
+    for u in 0..n {
+        for v in 0..n {
+            links[usize::from(u)][usize::from(v)] = linked(card, u, v);
+        }
+    }
+    Ok(Network { n, f, links })
+}
+
+/// The card reader without the links: how many servers there are and how many of
+/// them may be faulty.
+pub fn read_size(card: &[u8]) -> Result<(u8, u8), Refusal> {
+    let mut answer = [UNWRITTEN; 4];
+    // SAFETY: pointer and length are those of one live slice, which is only read;
+    // an empty slice's pointer is not null either. `answer` is lent for the call
+    // alone and nothing else refers to it.
+    unsafe { library::agreement_read_card(card.as_ptr(), card.len(), &mut answer) };
+    size_or_refusal(answer)
+        .unwrap_or_else(|| panic!("the card reader cannot answer {answer:?} on {card:02x?}"))
+}
+
+/// Whether `card` is accepted and has a link from `u` to `v`; no server past the
+/// last one has a link.
+pub fn linked(card: &[u8], u: u8, v: u8) -> bool {
+    // SAFETY: pointer and length are those of one live slice, which is only read;
+    // an empty slice's pointer is not null either. Any `u` and `v` are allowed, and
+    // C's bool, which comes back, is 0 or 1 as Rust's is.
+    unsafe { library::agreement_linked(card.as_ptr(), card.len(), u, v) }
+}
+
+/// Answers with the first bad split of the network on `card`, or with `None` if it
+/// has no bad split; a card that cannot be read is refused.
+pub fn split_test(card: &[u8]) -> Result<Option<Split>, Refusal> {
+    let mut answer = [UNWRITTEN; 5];
+    // SAFETY: pointer and length are those of one live slice, which is only read;
+    // an empty slice's pointer is not null either. `answer` is lent for the call
+    // alone and nothing else refers to it.
+    unsafe { library::agreement_split_test(card.as_ptr(), card.len(), &mut answer) };
+    split_or_refusal(answer)
+        .unwrap_or_else(|| panic!("the split test cannot answer {answer:?} on {card:02x?}"))
+}
+
+/// What the card reader's numbers say; `None` if its contract rules them out.
+fn size_or_refusal(answer: [u64; 4]) -> Option<Result<(u8, u8), Refusal>> {
+    match answer {
+        [ACCEPTED, n @ 2..=8, f @ 0..=2, 0] => Some(Ok((n as u8, f as u8))),
+        [REFUSED, whose, number, place] => Some(Err(refusal(whose, number, place)?)),
+        _ => None,
+    }
+}
+
+/// What the split test's numbers say; `None` if its contract rules them out.
+fn split_or_refusal(answer: [u64; 5]) -> Option<Result<Option<Split>, Refusal>> {
+    match answer {
+        [NO_BAD_SPLIT, 0, 0, 0, 0] => Some(Ok(None)),
+        [BAD_SPLIT, f, l, c, r] => Some(Ok(Some(Split {
+            f: u8::try_from(f).ok()?,
+            l: u8::try_from(l).ok()?,
+            c: u8::try_from(c).ok()?,
+            r: u8::try_from(r).ok()?,
+        }))),
+        [REFUSED, whose, number, place, 0] => Some(Err(refusal(whose, number, place)?)),
+        _ => None,
+    }
+}
+
+fn refusal(whose: u64, number: u64, place: u64) -> Option<Refusal> {
+    let number = u8::try_from(number).ok()?;
+    let place = usize::try_from(place).ok()?;
+    match whose {
+        OF_CARD => Some(Refusal::Card { number, place }),
+        OF_PLAN => Some(Refusal::Plan { number, place }),
+        OF_CALL => Some(Refusal::Call { number }),
+        _ => None,
+    }
+}
+
+#[cfg(test)]
+mod tests {
+    use super::*;
+
+    #[test]
+    fn numbers_become_the_answers_they_stand_for() {
+        let of_card = Refusal::Card {
+            number: 6,
+            place: 87,
+        };
+        let bad = Split {
+            f: 1,
+            l: 2,
+            c: 0,
+            r: 4,
+        };
+        assert_eq!(size_or_refusal([0, 3, 1, 0]), Some(Ok((3, 1))));
+        assert_eq!(size_or_refusal([2, 0, 6, 87]), Some(Err(of_card)));
+        assert_eq!(split_or_refusal([0; 5]), Some(Ok(None)));
+        assert_eq!(split_or_refusal([1, 1, 2, 0, 4]), Some(Ok(Some(bad))));
+        assert_eq!(split_or_refusal([2, 0, 6, 87, 0]), Some(Err(of_card)));
+        let of_plan = Refusal::Plan {
+            number: 7,
+            place: 4,
+        };
+        assert_eq!(refusal(1, 7, 4), Some(of_plan));
+        assert_eq!(refusal(2, 13, 0), Some(Refusal::Call { number: 13 }));
+    }
+
+    #[test]
+    fn numbers_that_are_no_answer_are_noticed() {
+        for answer in [
+            [UNWRITTEN; 4],
+            [0, 3, 1, UNWRITTEN],
+            [0, 1, 0, 0],
+            [0, 9, 0, 0],
+            [0, 2, 3, 0],
+            [1, 2, 0, 0],
+            [2, 3, 6, 87],
+            [2, 0, 256, 87],
+        ] {
+            assert_eq!(size_or_refusal(answer), None, "{answer:?}");
+        }
+        for answer in [
+            [UNWRITTEN; 5],
+            [0, 0, 0, 0, UNWRITTEN],
+            [0, 0, 0, 0, 1],
+            [1, 0, 1, 0, 256],
+            [2, 0, 6, 87, 1],
+            [3, 0, 0, 0, 0],
+        ] {
+            assert_eq!(split_or_refusal(answer), None, "{answer:?}");
+        }
+    }
+
+    #[test]
+    fn small_networks_of_the_paper() {
+        let p1 = [0x01, 0x02, 0x00, 0x02, 0x00, 0x01, 0x03];
+        assert_eq!(read_size(&p1), Ok((2, 0)));
+        assert!(linked(&p1, 0, 1) && !linked(&p1, 1, 0));
+        assert_eq!(split_test(&p1), Ok(None));
+        let empty = Refusal::Card {
+            number: 2,
+            place: 0,
+        };
+        assert_eq!(read_card(&[]), Err(empty));
+        assert_eq!(split_test(&[]), Err(empty));
+        assert!(!linked(&[], 0, 1));
+    }
+}

@@ -1,0 +1,68 @@
+//! Times of the proved library beside those of the reference, on a few cards.
+//!
+//! ```text
+//! cargo run --release -p bench
+//! ```
+//!
+//! Both are called in one process on the same bytes, by turns, and the middle one of
+//! many rounds is what counts, so that a busy machine disturbs both alike.
+
+#![forbid(unsafe_code)]
+
+mod cards;
+mod clock;
+
+use cards::Case;
+use clock::{nanoseconds_per_call, ROUNDS};
+use std::hint::black_box;
+use std::process;
+
+fn main() {
+    if cfg!(debug_assertions) {
+        eprintln!("times of a debug build say nothing: cargo run --release -p bench");
+        process::exit(2);
+    }
+    println!("Times in nanoseconds per call, the median of {ROUNDS} rounds by turns.");
+    println!("Library and reference are both built for release, in one process, on one input;");
+    println!("a call leaves nothing behind, so no buffer needs clearing between calls.");
+    let cases = cards::cases();
+    for case in &cases {
+        case.assert_answers();
+    }
+    println!();
+    heading("split test");
+    for case in &cases {
+        row(
+            case,
+            || agreement::split_test(black_box(&case.card)),
+            || reference::split_test(black_box(&case.card)),
+        );
+    }
+    println!();
+    // The library's reader answers with n and f, the reference's with all links; the
+    // library has read the links too by then, as they may be the fault.
+    heading("card reader");
+    for case in &cases {
+        row(
+            case,
+            || agreement::read_size(black_box(&case.card)),
+            || reference::read_card(black_box(&case.card)),
+        );
+    }
+}
+
+fn heading(function: &str) {
+    println!(
+        "{function:<44} {:>10} {:>10} {:>15}",
+        "ours", "reference", "ours/reference"
+    );
+}
+
+fn row<A, B>(case: &Case, ours: impl Fn() -> A, reference: impl Fn() -> B) {
+    let (ours, reference) = nanoseconds_per_call(ours, reference);
+    println!(
+        "{:<44} {ours:>10.1} {reference:>10.1} {:>15.3}",
+        case.name,
+        ours / reference
+    );
+}

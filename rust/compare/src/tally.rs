@@ -1,0 +1,82 @@
+//! Comparing the two implementations on one card, and counting what they answer.
+
+use crate::answers::{hex, Answers};
+use reference::Refusal;
+use std::fmt::{self, Arguments, Display, Formatter};
+
+/// How often each answer was met.
+#[derive(Debug, Clone, Default)]
+pub struct Tally {
+    /// Accepted cards whose network has no bad split.
+    pub without_bad_split: usize,
+    /// Accepted cards whose network has one.
+    pub with_bad_split: usize,
+    /// Refused cards by the refusal's number, 1 to 6; there is no number 0.
+    pub refused: [usize; 7],
+}
+
+impl Tally {
+    pub fn accepted(&self) -> usize {
+        self.without_bad_split + self.with_bad_split
+    }
+
+    pub fn cards(&self) -> usize {
+        self.accepted() + self.refused.iter().sum::<usize>()
+    }
+
+    /// Asks the library and the reference about `card` and counts the answer.
+    ///
+    /// Panics if they differ; `made_by` then says how to get the card again.
+    pub(crate) fn compare(&mut self, card: &[u8], made_by: Arguments) {
+        let library = Answers::of_library(card);
+        let reference = Answers::of_reference(card);
+        if library != reference {
+            panic!(
+                "library and reference differ\n  card       {}\n  made by    {made_by}\
+                 \n  library    {library}\n  reference  {reference}",
+                hex(card)
+            );
+        }
+        let n = reference.read.map_or(0, |network| network.n);
+        if let Some((u, v)) = link_past_the_last_server(card, n) {
+            panic!(
+                "the library has a link {u} to {v} that cannot be\n  card       {}\
+                 \n  made by    {made_by}\n  answers    {reference}",
+                hex(card)
+            );
+        }
+        self.count(&reference);
+    }
+
+    fn count(&mut self, answers: &Answers) {
+        match answers.split {
+            Ok(None) => self.without_bad_split += 1,
+            Ok(Some(_)) => self.with_bad_split += 1,
+            Err(Refusal::Card { number, .. }) => self.refused[usize::from(number)] += 1,
+            Err(other) => panic!("not a refusal of a card: {other:?}"),
+        }
+    }
+}
+
+impl Display for Tally {
+    fn fmt(&self, out: &mut Formatter) -> fmt::Result {
+        write!(
+            out,
+            "{} cards, {} accepted ({} without and {} with a bad split), refused 1 to 6: {:?}",
+            self.cards(),
+            self.accepted(),
+            self.without_bad_split,
+            self.with_bad_split,
+            &self.refused[1..]
+        )
+    }
+}
+
+/// A link that the library claims on this card although one of its ends is no
+/// server. `n` is 0 for a refused card: none of its links counts, the ones given
+/// before the fault included.
+fn link_past_the_last_server(card: &[u8], n: u8) -> Option<(u8, u8)> {
+    let past = (n..=8).chain([u8::MAX]);
+    past.flat_map(|u| (0..8).flat_map(move |v| [(u, v), (v, u)]))
+        .find(|&(u, v)| agreement::linked(card, u, v))
+}

@@ -1,0 +1,9 @@
+//! The given cards: their answers come from the papers, not from either program.
+
+#[test]
+fn library_and_reference_answer_as_stated() {
+    let tally = compare::given_cards();
+    println!("given: {tally}");
+    assert_eq!(tally.cards(), 795);
+    assert_eq!(tally.accepted(), 330);
+}

@@ -1,0 +1,20 @@
+//! Deterministic generators of inputs for the agreement library.
+//!
+//! Everything is drawn from a [`Rng`], so one seed always gives the same cards,
+//! plans and calls. Sound inputs and damaged ones are mixed on purpose: a
+//! comparison of two implementations should meet every answer and every refusal.
+
+#![forbid(unsafe_code)]
+
+mod calls;
+mod cards;
+mod damage;
+mod plans;
+mod rng;
+mod routes;
+
+pub use calls::{faulty, inputs, table};
+pub use cards::{all_links, card, card_of, complete_card, network_card, network_card_with};
+pub use damage::damaged_plan;
+pub use plans::plan;
+pub use rng::Rng;

@@ -1,0 +1,32 @@
+//! Reference implementation of the agreement library for office servers.
+//!
+//! A *network card* describes up to eight servers and the one-way links between
+//! them. The *split test* says whether Byzantine agreement is possible at all on
+//! that network (Theorem 1 of Tseng and Vaidya). A *route plan* fixes every route
+//! that their Algorithm BC uses, block by block. The *run* plays all blocks of an
+//! accepted plan and answers with the bit each sound server decides.
+//!
+//! A set of servers is one byte throughout, server `i` standing for `1 << i`.
+//!
+//! Everything here is written for reading: each function follows the words of the
+//! specification, and none of them panics, whatever bytes it is handed.
+
+#![forbid(unsafe_code)]
+
+mod card;
+mod plan;
+mod refusal;
+mod rehearse;
+mod run;
+mod sets;
+mod split;
+
+#[cfg(test)]
+mod sample;
+
+pub use card::{read_card, Network};
+pub use plan::{check_plan, Totals};
+pub use refusal::Refusal;
+pub use rehearse::rehearse;
+pub use run::run;
+pub use split::{split_test, Split};

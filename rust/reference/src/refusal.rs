@@ -1,0 +1,48 @@
+//! What is turned back, and on which ground.
+
+/// Why a card, a plan or a call is turned back.
+///
+/// `number` is the ground's number in the specification's table. `place` is the
+/// position of the command byte at fault in the card or plan; the table says what
+/// stands there when no such command exists.
+#[derive(Debug, Clone, Copy, PartialEq, Eq)]
+pub enum Refusal {
+    /// The network card is at fault (numbers 1 to 6).
+    Card { number: u8, place: usize },
+    /// The route plan is at fault (numbers 1 to 3 and 7 to 11).
+    Plan { number: u8, place: usize },
+    /// The rest of the call is at fault (numbers 12 to 14).
+    Call { number: u8 },
+}
+
+/// The numbers of the specification's table of refusals.
+pub(crate) mod ground {
+    /// Card or plan over its length.
+    pub const TOO_LONG: u8 = 1;
+    /// Unknown command in this file, or a command or its operands cut off.
+    pub const NO_WHOLE_COMMAND: u8 = 2;
+    /// Bytes follow the end command.
+    pub const BYTES_AFTER_END: u8 = 3;
+    /// Card: the first command is not the opening one, or the opening comes again.
+    pub const OPENING_MISPLACED: u8 = 4;
+    /// Card: n, f or a server out of range, or a link from a server to itself.
+    pub const OUT_OF_RANGE: u8 = 5;
+    /// Card: the link was given before.
+    pub const LINK_REPEATED: u8 = 6;
+    /// Plan: the command, or the F and A of a block, is not the one due.
+    pub const NOT_DUE: u8 = 7;
+    /// Plan: S is empty or not within V - F.
+    pub const BAD_SOURCE_SET: u8 = 8;
+    /// Plan: a route breaks a rule on its own.
+    pub const BAD_ROUTE: u8 = 9;
+    /// Plan: a route shares a server with an earlier one to the same receiver.
+    pub const ROUTES_NOT_DISJOINT: u8 = 10;
+    /// Plan: k is not the one due, or N breaks its rule.
+    pub const BAD_NEIGHBOURS: u8 = 11;
+    /// Call: inputs are not n bytes of 0 or 1.
+    pub const BAD_INPUTS: u8 = 12;
+    /// Call: more than f faulty servers, or one that is not in V.
+    pub const BAD_FAULTY_SET: u8 = 13;
+    /// Call: the lent buffer has under n bytes.
+    pub const SHORT_BUFFER: u8 = 14;
+}
