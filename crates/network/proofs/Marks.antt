@@ -17,10 +17,3 @@ pub linked-past-rows : (links : Links) (u v : ℕ) → length links ≡ 8 → 8 
 unfolding linkedIn
 linked-past-rows links u v e h = rw (List·getD-eq-default links [] {n = u} (omega arith)) refl
 
-pub with-past-row : (links : Links) (u v : ℕ) → length (getD links u []) ≡ 8 → 8 ≤ v → withLink links u v ≡ links
-unfolding withLink
-with-past-row links u v e h = rw (set-out (getD links u []) v true (omega arith)) (set-getD links u [])
-
-pub with-past-rows : (links : Links) (u v : ℕ) → length links ≡ 8 → 8 ≤ u → withLink links u v ≡ links
-unfolding withLink
-with-past-rows links u v e h = set-out links u (set (getD links u []) v true) (omega arith)

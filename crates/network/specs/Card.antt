@@ -85,3 +85,8 @@ headOf (refused r) = turned r
 abbrev pub linksOf : Network → Links
 linksOf (network n f links) = links
 linksOf (refused r) = noLinks
+
+-- what the lent links hold after the card was read: a refused card leaves them as they were
+abbrev pub linksAfter : Network → Links → Links
+linksAfter (network n f links) before = links
+linksAfter (refused r) before = before

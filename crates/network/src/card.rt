@@ -1,9 +1,8 @@
 // The card reader: any bytes, any length, to the network or to the one refusal.
-use crate::links;
 ghost use mathlib.Core.Path.{_≡_};
 ghost use Rattle.refusal.specs.Refused.{cardRefusal};
-ghost use Rattle.network.specs.Card.{Head, turned, headFits, linkFits, readCard, headOf, linksOf};
-ghost use Rattle.network.specs.Answers.{readingOf};
+ghost use Rattle.network.specs.Card.{turned, headFits, linkFits};
+ghost use Rattle.network.specs.Answers.{readingOf, Answered};
 use refusal::CardGround;
 use refusal::Refusal;
 
@@ -44,9 +43,10 @@ fn link_fits(n: u8, u: u8, v: u8) -> bool
     false
 }
 
-// n and f of the card, or what is at fault.
-pub fn read_card(card: &[u8]) -> Reading
-    ensures { λ r. ⌜ readingOf r ≡ headOf (readCard (now (card .entry))) ⌝ }
+// Reads the card: n and f, with the links laid into `links`; or what is at fault, with `links` as
+// it was.
+pub fn read_card(card: &[u8], links: &mut [[bool; 8]; 8]) -> Reading
+    ensures { λ r. ⌜ Answered (now (card .entry)) (now (links .entry)) r (now (links .exit)) ⌝ }
 {
     if 1024 < card.len() {
         return refused(CardGround::TooLong);
@@ -54,7 +54,7 @@ pub fn read_card(card: &[u8]) -> Reading
     let mut at: usize = 0;
     let mut n: u8 = 0;
     let mut f: u8 = 0;
-    let mut links = [[false; 8]; 8];
+    let mut marks = [[false; 8]; 8];
     while at < card.len() {
         let command = card[at];
         if command == 3 {
@@ -65,6 +65,7 @@ pub fn read_card(card: &[u8]) -> Reading
             if after < card.len() {
                 return refused(CardGround::Trailing(after));
             }
+            *links = marks;
             return Reading::Network { n, f };
         }
         if command == 1 {
@@ -94,11 +95,12 @@ pub fn read_card(card: &[u8]) -> Reading
                 let u = card[at + 1];
                 let v = card[at + 2];
                 if link_fits(n, u, v) {
-                    if links::linked(links, u, v) {
+                    let row = u as usize;
+                    let mark = v as usize;
+                    if marks[row][mark] {
                         return refused(CardGround::Repeated(at));
                     }
-                    let more = links::with_link(links, u, v);
-                    links = more;
+                    marks[row][mark] = true;
                     at = at + 3;
                 } else {
                     return refused(CardGround::Range(at));
@@ -109,24 +111,4 @@ pub fn read_card(card: &[u8]) -> Reading
         }
     }
     refused(CardGround::Cut(at))
-}
-
-// The links of the card; none where the card is refused.
-pub fn card_links(card: &[u8]) -> [[bool; 8]; 8]
-    ensures { λ r. ⌜ r ≡ linksOf (readCard (now (card .entry))) ⌝ }
-{
-    let mut links = [[false; 8]; 8];
-    let reading = read_card(card);
-    let Reading::Network { n: _, f: _ } = reading else {
-        return links;
-    };
-    let mut at: usize = 3;
-    while at + 3 <= card.len() {
-        let u = card[at + 1];
-        let v = card[at + 2];
-        let more = links::with_link(links, u, v);
-        links = more;
-        at = at + 3;
-    }
-    links
 }

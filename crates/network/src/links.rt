@@ -1,7 +1,7 @@
 // The one-way links of a network, held as eight rows of eight marks: row u has a mark at v where
 // there is a link from u to v.
 ghost use mathlib.Core.Path.{_≡_};
-ghost use Rattle.network.specs.Links.{linkedIn, withLink};
+ghost use Rattle.network.specs.Links.{linkedIn};
 
 // There is a link from u to v.
 pub fn linked(links: [[bool; 8]; 8], u: u8, v: u8) -> bool
@@ -15,18 +15,4 @@ pub fn linked(links: [[bool; 8]; 8], u: u8, v: u8) -> bool
         }
     }
     false
-}
-
-// The links and one from u to v; a server past the eighth has no row.
-pub fn with_link(mut links: [[bool; 8]; 8], u: u8, v: u8) -> [[bool; 8]; 8]
-    ensures { λ r. ⌜ r ≡ withLink links u v ⌝ }
-{
-    if u < 8 {
-        if v < 8 {
-            let row = u as usize;
-            let mark = v as usize;
-            links[row][mark] = true;
-        }
-    }
-    links
 }

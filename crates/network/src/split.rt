@@ -1,16 +1,16 @@
 // The split test: the first bad split of V into F, L, C, R, or none.
 use crate::card;
 use crate::card::Reading;
-use crate::links;
 use refusal::Refusal;
 ghost use mathlib.Core.Path.{_≡_};
-ghost use mathlib.Core.Bool.{_&&_};
-ghost use Prim.Native.Nat.{ℕ, _≤_, _^_};
+ghost use mathlib.Core.Bool.{cond, _&&_, _||_, false};
+ghost use Prim.Native.Nat.{ℕ, _≤_, _<_, _^_};
+ghost use lib.Dec.{leb};
 ghost use lib.ListN.{getD};
-ghost use Rattle.sets.specs.Sets.{has};
+ghost use Rattle.sets.specs.Sets.{has, single};
 ghost use Rattle.network.specs.Links.{Links};
-ghost use Rattle.network.specs.Split.{someBelow, firstBad, splitTest};
-ghost use Rattle.network.specs.Weak.{weak, Sources, SourcesTo};
+ghost use Rattle.network.specs.Split.{firstBad, splitTest};
+ghost use Rattle.network.specs.Weak.{outside, Sources, Joined, HalfTable, Tables};
 ghost use Rattle.network.specs.Answers.{splitAnswerOf};
 
 pub enum SplitAnswer {
@@ -22,99 +22,125 @@ pub enum SplitAnswer {
     Refused(Refusal),
 }
 
-// The servers below n with a link to v.
-fn sources(n: u8, links: [[bool; 8]; 8], v: u8) -> u8
-    requires { ⌜ n ≤ 8 ⌝ }
-    ensures { λ r. ⌜ SourcesTo n links v r ⌝ }
+// The rows with server u in each row v that the links of u, `row`, have a mark at.
+fn with_source(mut rows: [u8; 8], row: [bool; 8], u: u8) -> [u8; 8]
+    ensures { λ r. ⌜ ((v w : ℕ) → v < 8 → has (getD r v 0) w ≡ (has (getD rows v 0) w || (getD row v false && has (single u) w))) ⌝ }
 {
-    let mut row: u8 = 0;
-    for u in 0..n {
-        if links::linked(links, u, v) {
-            row = sets::union(row, sets::single(u));
+    let one = sets::single(u);
+    for v in 0..8usize {
+        if row[v] {
+            rows[v] = sets::union(rows[v], one);
         }
     }
-    row
+    rows
 }
 
-// The sources of each server below n.
+// For each server the servers below n with a link to it.
 fn source_rows(n: u8, links: [[bool; 8]; 8]) -> [u8; 8]
     requires { ⌜ n ≤ 8 ⌝ }
     ensures { λ r. ⌜ Sources n links r ⌝ }
 {
     let mut rows = [0u8; 8];
-    for v in 0..n {
-        let at = v as usize;
-        let row = sources(n, links, v);
-        rows[at] = row;
+    for u in 0..n {
+        let at = u as usize;
+        let row = links[at];
+        let more = with_source(rows, row, u);
+        rows = more;
     }
     rows
 }
 
-// The servers with a link into s.
-fn links_into(rows: [u8; 8], s: u8) -> u8
-    ensures { λ r. ⌜ ((u : ℕ) → has r u ≡ someBelow 8 (λ (v : ℕ). has s v && has (getD rows v 0) u)) ⌝ }
+// The row, if server i is in x.
+fn kept(x: u8, i: u8, row: u8) -> u8
+    ensures { λ r. ⌜ r ≡ cond (has x i) row 0 ⌝ }
 {
-    let mut all: u8 = 0;
-    for v in 0..8u8 {
-        if sets::member(s, v) {
-            let at = v as usize;
-            all = sets::union(all, rows[at]);
-        }
+    if sets::member(x, i) {
+        return row;
     }
-    all
+    0
 }
 
-// The set s is not empty, keeps clear of F, and has at most f incoming neighbours outside F: then
-// it can be a side of a bad split, whatever the other side is.
-fn is_weak(rows: [u8; 8], f: u8, fault: u8, s: u8) -> bool
-    ensures { λ r. ⌜ ((n : ℕ) (links : Links) → n ≤ 8 → Sources n links rows → r ≡ weak n f links fault s) ⌝ }
+// The servers with a link into the servers of x, which are counted from `first` on.
+fn into_half(rows: [u8; 8], first: usize, x: u8) -> u8
+    requires { ⌜ first ≤ 4 ⌝ }
+    ensures { λ r. ⌜ Joined rows first x r ⌝ }
 {
-    if s == 0 {
-        return false;
-    }
-    if sets::meet(fault, s) == 0 {
-        let into = links_into(rows, s);
-        let neighbours = sets::minus(into, s);
-        let outside = sets::minus(neighbours, fault);
-        return sets::size(outside) <= f;
-    }
-    false
+    let a = kept(x, 0, rows[first]);
+    let b = kept(x, 1, rows[first + 1]);
+    let c = kept(x, 2, rows[first + 2]);
+    let d = kept(x, 3, rows[first + 3]);
+    sets::union(d, sets::union(c, sets::union(b, a)))
 }
 
-// The first bad split in the order of F, then L, then R. The scan over R is entered only for a
-// weak L.
+// The same for every set of the four servers from `first` on.
+fn half_table(rows: [u8; 8], first: usize) -> [u8; 16]
+    requires { ⌜ first ≤ 4 ⌝ }
+    ensures { λ r. ⌜ HalfTable rows first r ⌝ }
+{
+    let mut table = [0u8; 16];
+    for x in 0..16usize {
+        let s = x as u8;
+        let into = into_half(rows, first, s);
+        table[x] = into;
+    }
+    table
+}
+
+// The set s has at most f incoming neighbours outside F: then it can be a side of a bad split,
+// whatever the other side is. The two tables have the servers with a link into the lower and into
+// the upper four servers of a set.
+fn is_weak(sizes: &[u8; 256], lower: &[u8; 16], upper: &[u8; 16], f: u8, fault: u8, s: u8) -> bool
+    ensures { λ r. ⌜ ((n : ℕ) (links : Links) → n ≤ 8 → s < 2 ^ n → Tables n links (now (sizes .entry)) (now (lower .entry)) (now (upper .entry)) → r ≡ leb (outside n links fault s) f) ⌝ }
+{
+    let low = (s % 16) as usize;
+    let high = (s / 16) as usize;
+    let into = sets::union(lower[low], upper[high]);
+    let neighbours = sets::minus(into, s);
+    let outside = sets::minus(neighbours, fault) as usize;
+    sizes[outside] <= f
+}
+
+// The first bad split in the order of F, then L, then R. L goes over the sets that keep clear of F,
+// R over those that keep clear of F and L; the scan over R is entered only for a weak L.
 fn first_bad(n: u8, f: u8, links: [[bool; 8]; 8]) -> SplitAnswer
     requires { ⌜ n ≤ 8 ⌝ }
     ensures { λ r. ⌜ splitAnswerOf r ≡ firstBad n f links ⌝ }
 {
     let rows = source_rows(n, links);
+    let lower = half_table(rows, 0);
+    let upper = half_table(rows, 4);
+    let sizes = sets::sizes();
     let servers = sets::full(n);
     let limit = (servers as u16) + 1;
     let mut found = SplitAnswer::Good;
     'scan: for i in 0..limit {
         let fault = i as u8;
-        if sets::size(fault) <= f {
-            for j in 0..limit {
+        let at = i as usize;
+        if sizes[at] <= f {
+            let mut j = sets::next_apart(0, fault);
+            while j < limit {
                 let left = j as u8;
-                if is_weak(rows, f, fault, left) {
-                    for k in 0..limit {
+                if is_weak(&sizes, &lower, &upper, f, fault, left) {
+                    let busy = sets::union(fault, left);
+                    let mut k = sets::next_apart(0, busy);
+                    while k < limit {
                         let right = k as u8;
-                        if sets::meet(left, right) == 0 {
-                            if is_weak(rows, f, fault, right) {
-                                let sound = sets::minus(servers, fault);
-                                let sides = sets::union(left, right);
-                                let rest = sets::minus(sound, sides);
-                                found = SplitAnswer::Bad {
-                                    f: fault,
-                                    l: left,
-                                    c: rest,
-                                    r: right,
-                                };
-                                break 'scan;
-                            }
+                        if is_weak(&sizes, &lower, &upper, f, fault, right) {
+                            let sound = sets::minus(servers, fault);
+                            let sides = sets::union(left, right);
+                            let rest = sets::minus(sound, sides);
+                            found = SplitAnswer::Bad {
+                                f: fault,
+                                l: left,
+                                c: rest,
+                                r: right,
+                            };
+                            break 'scan;
                         }
+                        k = sets::next_apart(right, busy);
                     }
                 }
+                j = sets::next_apart(left, fault);
             }
         }
     }
@@ -125,12 +151,10 @@ fn first_bad(n: u8, f: u8, links: [[bool; 8]; 8]) -> SplitAnswer
 pub fn split_test(card: &[u8]) -> SplitAnswer
     ensures { λ r. ⌜ splitAnswerOf r ≡ splitTest (now (card .entry)) ⌝ }
 {
-    let reading = card::read_card(card);
+    let mut links = [[false; 8]; 8];
+    let reading = card::read_card(card, &mut links);
     match reading {
         Reading::Refused(r) => SplitAnswer::Refused(r),
-        Reading::Network { n, f } => {
-            let links = card::card_links(card);
-            first_bad(n, f, links)
-        }
+        Reading::Network { n, f } => first_bad(n, f, links),
     }
 }

@@ -9,9 +9,11 @@
 --     full n      == all servers below n
 use mathlib.Core.Path.{_≡_}
 use mathlib.Core.Bool.{Bool, true, false, cond, not, _&&_, _||_}
+use mathlib.Core.List.{List}
 use Prim.Native.Nat.{ℕ, zero, suc, _+_, _-_, _*_, _/_, _%_, _^_, _<_}
 use lib.Bits.{bitAnd, bitOr, bitXor}
 use lib.Dec.{eqb, ltb}
+use lib.ListN.{length, getD}
 
 abbrev pub Set : Type 0
 Set = ℕ → Bool
@@ -66,3 +68,8 @@ lowest s = firstIn 8 0 (has s)
 unfoldable pub encode : ℕ → Set → ℕ
 encode zero p = 0
 encode (suc n) p = cond (p 0) 1 0 + 2 * encode n (λ (i : ℕ). p (suc i))
+
+-- xs has f s at s, for each of the 256 sets of eight servers
+pub record TableOf (f : ℕ → ℕ) (xs : List ℕ) : Type 0 where
+  pub long : length xs ≡ 256
+  pub entry : (s : ℕ) → s < 256 → getD xs s 0 ≡ f s

@@ -1,6 +1,6 @@
 // A set of servers is one byte: server i stands for 2^i.
 ghost use mathlib.Core.Path.{_≡_};
-ghost use Rattle.sets.specs.Sets.{has, single, full, union, meet, minus, within, size, lowest};
+ghost use Rattle.sets.specs.Sets.{has, single, full, union, meet, minus, within, size, lowest, TableOf};
 ghost use Prim.Native.Nat.{min};
 
 // How many members each set has.
@@ -578,6 +578,13 @@ pub fn within(a: u8, b: u8) -> bool
     ensures { λ r. ⌜ r ≡ within a b ⌝ }
 {
     (a & b) == a
+}
+
+// The table of sizes, for a caller that looks many sizes up.
+pub fn sizes() -> [u8; 256]
+    ensures { λ r. ⌜ TableOf size r ⌝ }
+{
+    SIZES
 }
 
 pub fn size(s: u8) -> u8

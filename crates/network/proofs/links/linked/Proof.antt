@@ -1,5 +1,5 @@
-use Rattle.network.specs.Links.{linkedIn, withLink}
-use Rattle.network.proofs.Marks.{linked-past-row, linked-past-rows, with-past-row, with-past-rows}
+use Rattle.network.specs.Links.{linkedIn}
+use Rattle.network.proofs.Marks.{linked-past-row, linked-past-rows}
 use Rattle.facts.proofs.Rows.{row-long}
 use mathlib.Core.Path.{refl, sym}
 use native.Mathlib.Omega.{arith}
