@@ -7,6 +7,7 @@
 --     size s      == how many members s has, of the eight that there can be
 --     lowest s    == the lowest member of s, 8 for the empty set
 --     full n      == all servers below n
+--     next s b    == the least set after s that has no server of b, for an s that has none
 use mathlib.Core.Path.{_≡_}
 use mathlib.Core.Bool.{Bool, true, false, cond, not, _&&_, _||_}
 use mathlib.Core.List.{List}
@@ -41,6 +42,10 @@ meet a b = bitAnd a b
 -- the members of a that are not in b
 unfoldable pub minus : ℕ → ℕ → ℕ
 minus a b = bitXor a (bitAnd a b)
+
+-- the least set after s that has no server of b, for an s that has none
+unfoldable pub next : ℕ → ℕ → ℕ
+next s b = minus (union s b + 1) b
 
 -- every member of a is in b
 unfoldable pub within : ℕ → ℕ → Bool

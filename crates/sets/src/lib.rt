@@ -1,6 +1,6 @@
 // A set of servers is one byte: server i stands for 2^i.
 ghost use mathlib.Core.Path.{_≡_};
-ghost use Rattle.sets.specs.Sets.{has, single, full, union, meet, minus, within, size, lowest, TableOf};
+ghost use Rattle.sets.specs.Sets.{has, single, full, union, meet, minus, within, size, lowest, next, TableOf};
 ghost use Prim.Native.Nat.{min};
 
 // How many members each set has.
@@ -598,4 +598,13 @@ pub fn lowest(s: u8) -> u8
     ensures { λ r. ⌜ r ≡ lowest s ⌝ }
 {
     LOWEST[s as usize]
+}
+
+// The least set after s that has no server of busy, for an s that has none; 256 where there is none among the sets of eight servers.
+pub fn next_apart(s: u8, busy: u8) -> u16
+    ensures { λ r. ⌜ r ≡ next s busy ⌝ }
+{
+    let after = ((s | busy) as u16) + 1;
+    let b = busy as u16;
+    after ^ (after & b)
 }
