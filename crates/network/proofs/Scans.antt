@@ -1,6 +1,6 @@
 -- The three nested scans of the split test. At each level what is left to scan from here gives the answer of the whole:
 --     Left lim i p later whole   what p gives from i on, or else what is left outside, is the whole answer
---     left-turn, left-done       one number more of the scan, and its end: the same two laws serve all three levels
+--     left-turn, left-jump, left-done   one number more of the scan, several, and its end: the same laws serve all three levels
 --     Scan, Sides, Splits        the invariants of the scans over F, L and R
 -- Assumes nothing.
 use mathlib.Core.Path.{_≡_, refl, sym, ap, _∙_}
@@ -9,15 +9,17 @@ use mathlib.Core.List.{List}
 use Prim.Native.Nat.{ℕ, zero, suc, _+_, _-_, _^_, _≤_, _<_, min}
 use native.Mathlib.Numerals.{add-one}
 use native.Mathlib.Omega.{arith}
-use lib.Dec.{eqb, leb}
+use lib.Dec.{leb}
 use lib.Pow.{pow-pos}
-use borrow.Author.Tests.{le-leb, lt-leb, eq-eqb, ne-eqb}
+use borrow.Author.Tests.{le-leb, lt-leb, eq-eqb}
 use Rattle.refusal.specs.Refused.{Refused}
-use Rattle.sets.specs.Sets.{meet, size, union, minus, full}
+use Rattle.sets.specs.Sets.{meet, size, union, minus, full, next}
+use Rattle.sets.proofs.Members.{meet-comm, meet-nothing, apart-left, apart-right, union-small}
+use Rattle.sets.proofs.Apart.{next-apart, next-after, next-least, next-small}
 use Rattle.network.specs.Links.{Links}
 use Rattle.network.specs.Split.{Split, good, bad, unread, orElse, rest, badAt, firstFrom, badWithSides, badWithFaults, firstBad}
-use Rattle.network.specs.Weak.{weak, Sources}
-use Rattle.network.proofs.Weakness.{no-faults, no-sides, none-meeting, none-right, bad-here}
+use Rattle.network.specs.Weak.{outside, weak, Tables}
+use Rattle.network.proofs.Weakness.{weak-empty, weak-meets, weak-is, no-faults, no-sides, none-empty, none-busy, none-right, bad-here}
 
 abbrev pub Left : ℕ → ℕ → (ℕ → Split) → Split → Split → Type 0
 Left lim i p later whole = orElse (firstFrom (lim - i) i p) later ≡ whole
@@ -46,6 +48,15 @@ firstFrom-done lim i p h = let e : lim - i ≡ 0 = omega arith in rw e refl
 abbrev pub beyond : ℕ → ℕ → (ℕ → Split) → Split → Split
 beyond lim i p later = orElse (firstFrom (lim - (i + 1)) (i + 1) p) later
 
+firstFrom-skip : (k lim i : ℕ) (p : ℕ → Split) → i + k ≤ lim → ((x : ℕ) → i ≤ x → x < i + k → p x ≡ good) → firstFrom (lim - i) i p ≡ firstFrom (lim - (i + k)) (i + k) p
+firstFrom-skip zero lim i p h g = let e : i + 0 ≡ i = omega arith in rw e refl
+firstFrom-skip (suc k) lim i p h g =
+    let e : i + 1 + k ≡ i + suc k = omega arith in
+    firstFrom-turn lim i p (omega arith)
+    ∙ ap (λ (x : Split). orElse x (firstFrom (lim - (i + 1)) (i + 1) p)) (g i (omega arith) (omega arith))
+    ∙ firstFrom-skip k lim (i + 1) p (omega arith) (λ x a b. g x (omega arith) (omega arith))
+    ∙ ap (λ (m : ℕ). firstFrom (lim - m) m p) e
+
 module _ (lim i : ℕ) (p : ℕ → Split) (later whole : Split) (so : Left lim i p later whole) where
   pub left-turn : i < lim → orElse (p i) (beyond lim i p later) ≡ whole
   left-turn h =
@@ -63,18 +74,36 @@ module _ (lim i : ℕ) (p : ℕ → Split) (later whole : Split) (so : Left lim 
       let z : lim - 0 ≡ lim = omega arith in
       ap (λ (m : ℕ). orElse (firstFrom m 0 q) (beyond lim i p later)) z ∙ ap (λ (x : Split). orElse x (beyond lim i p later)) (sym e) ∙ left-turn h
 
+-- from i on to j, where nothing between is found
+pub left-jump : (lim i j : ℕ) (p : ℕ → Split) (later whole : Split) → Left lim i p later whole → i ≤ j → j ≤ lim → ((x : ℕ) → i ≤ x → x < j → p x ≡ good) → Left lim j p later whole
+left-jump lim i j p later whole so a b g =
+    let e : i + (j - i) ≡ j = omega arith in
+    ap (λ (m : ℕ). orElse (firstFrom (lim - m) m p) later) (sym e)
+    ∙ ap (λ (x : Split). orElse x later) (sym (firstFrom-skip (j - i) lim i p (omega arith) (λ x c d. g x c (omega arith))))
+    ∙ so
+
+min-few : (n : ℕ) → n ≤ 8 → min n 8 ≡ n
+min-few n h = omega arith
+
 -- there are 2^n sets of n servers
 pub limit-of : (n servers : ℕ) → n ≤ 8 → servers ≡ full (min n 8) → servers + 1 ≡ 2 ^ n
 unfolding full
 limit-of n servers h e = let w : min n 8 ≡ n = omega arith in let v = rw w at e in let p = pow-pos n in omega arith
 
-module _ (n f : ℕ) (rows : List ℕ) (limit : ℕ) where
+-- the sets that next leaves out of a scan for the sets apart from b
+skipped : (b s x : ℕ) → meet s b ≡ 0 → s < x → x < next s b → meet x b ≡ 0 → ⊥
+skipped b s x a h k e = let l = next-least s b x a e h in omega arith
+
+module _ (n f limit : ℕ) (sizes lower upper : List ℕ) where
+  abbrev pub Given : Links → Type 0
+  Given links = Tables n links sizes lower upper
+
   -- before F = i
   pub record Scan (i : ℕ) : Type 0 where
     pub few : n ≤ 8
     pub limit-is : limit ≡ 2 ^ n
     pub inside : i ≤ limit
-    pub left : (links : Links) → Sources n links rows → Left limit i (badWithFaults n f links) good (firstBad n f links)
+    pub left : (links : Links) → Given links → Left limit i (badWithFaults n f links) good (firstBad n f links)
 
   -- before L = j, F being i
   pub record Sides (i j : ℕ) : Type 0 where
@@ -82,151 +111,151 @@ module _ (n f : ℕ) (rows : List ℕ) (limit : ℕ) where
     pub limit-is : limit ≡ 2 ^ n
     pub i-inside : i < limit
     pub inside : j ≤ limit
+    pub some : 0 < j
+    pub clear : meet j i ≡ 0
     pub small : leb (size i) f ≡ true
-    pub left : (links : Links) → Sources n links rows → Left limit j (badWithSides n f links i) (beyond limit i (badWithFaults n f links) good) (firstBad n f links)
+    pub left : (links : Links) → Given links → Left limit j (badWithSides n f links i) (beyond limit i (badWithFaults n f links) good) (firstBad n f links)
 
   -- before R = k, F being i and L being j
   pub record Splits (i j k : ℕ) : Type 0 where
-    pub few : n ≤ 8
-    pub limit-is : limit ≡ 2 ^ n
-    pub i-inside : i < limit
+    pub sides : Sides i j
     pub j-inside : j < limit
     pub inside : k ≤ limit
-    pub small : leb (size i) f ≡ true
-    pub weakL : (links : Links) → Sources n links rows → weak n f links i j ≡ true
-    pub left : (links : Links) → Sources n links rows
+    pub some : 0 < k
+    pub clear : meet k (union i j) ≡ 0
+    pub weakL : (links : Links) → Given links → weak n f links i j ≡ true
+    pub left : (links : Links) → Given links
         → Left limit k (badAt n f links i j) (beyond limit j (badWithSides n f links i) (beyond limit i (badWithFaults n f links) good)) (firstBad n f links)
 
   -- a test that does not look at the links
   abbrev pub Tells : Bool → ℕ → ℕ → Type 0
-  Tells b F s = (m : ℕ) (links : Links) → m ≤ 8 → Sources m links rows → b ≡ weak m f links F s
+  Tells b F s = (m : ℕ) (links : Links) → m ≤ 8 → s < 2 ^ m → Tables m links sizes lower upper → b ≡ leb (outside m links F s) f
 
   pub scan-starts : n ≤ 8 → limit ≡ 2 ^ n → Scan 0
   unfolding firstBad
   scan-starts h e =
-      record {
-        few = h;
-        limit-is = e;
-        inside = omega arith;
-        left = λ links so.
-            orElse-good (firstFrom (limit - 0) 0 (badWithFaults n f links)) ∙ (let z : limit - 0 ≡ 2 ^ n = omega arith in ap (λ (m : ℕ). firstFrom m 0 (badWithFaults n f links)) z);
-      }
+      record { few = h; limit-is = e; inside = omega arith; left = λ links so.
+          orElse-good (firstFrom (limit - 0) 0 (badWithFaults n f links)) ∙ (let z : limit - 0 ≡ 2 ^ n = omega arith in ap (λ (m : ℕ). firstFrom m 0 (badWithFaults n f links)) z) }
 
-  pub scan-ends : (i : ℕ) → Scan i → limit ≤ i → (links : Links) → Sources n links rows → good ≡ firstBad n f links
+  pub scan-ends : (i : ℕ) → Scan i → limit ≤ i → (links : Links) → Given links → good ≡ firstBad n f links
   scan-ends i s h links so = left-done limit i (badWithFaults n f links) good (firstBad n f links) (s .left links so) h
 
   module _ (i : ℕ) (s : Scan i) (h : i < limit) (k : ℕ) (e : k ≡ size i) where
     pub scan-past : f < k → Scan (i + 1)
     scan-past q =
-        record {
-          few = s .few;
-          limit-is = s .limit-is;
-          inside = omega arith;
-          left = λ links so.
-              left-past limit i (badWithFaults n f links) good (firstBad n f links) (s .left links so) h (no-faults n f links i (lt-leb (size i) f (omega arith)));
-        }
+        record { few = s .few; limit-is = s .limit-is; inside = omega arith; left = λ links so.
+            left-past limit i (badWithFaults n f links) good (firstBad n f links) (s .left links so) h (no-faults n f links i (lt-leb (size i) f (omega arith))) }
 
-    pub sides-start : k ≤ f → Sides i 0
+    -- no L before the first set apart from F
+    too-low : (links : Links) (x : ℕ) → x < next 0 i → weak n f links i x ≡ false
+    too-low links zero q = weak-empty n f links i
+    too-low links (suc x) q = weak-meets n f links i (suc x) (λ a. skipped i 0 (suc x) (meet-nothing i) (omega arith) q (meet-comm (suc x) i ∙ a))
+
+    pub sides-start : k ≤ f → (j : ℕ) → j ≡ next 0 i → Sides i j
     unfolding badWithFaults
-    sides-start q =
-        record {
-          few = s .few;
-          limit-is = s .limit-is;
-          i-inside = h;
-          inside = omega arith;
-          small = le-leb (size i) f (omega arith);
-          left = λ links so.
-              left-into limit i (badWithFaults n f links) good (firstBad n f links) (s .left links so) h (badWithSides n f links i) (ap (λ (m : ℕ). firstFrom m 0 (badWithSides n f links i)) (sym (s .limit-is)));
-        }
+    sides-start q j w =
+        let l = s .limit-is in
+        let t = next-small n 0 i (pow-pos n) (omega arith) in
+        let a = next-after 0 i (meet-nothing i) in
+        record { few = s .few; limit-is = s .limit-is; i-inside = h; inside = omega arith; some = omega arith; clear = ap (λ (x : ℕ). meet x i) w ∙ next-apart 0 i; small = le-leb (size i) f (omega arith); left = λ links so.
+            left-jump limit 0 j (badWithSides n f links i) (beyond limit i (badWithFaults n f links) good) (firstBad n f links)
+            (left-into limit i (badWithFaults n f links) good (firstBad n f links) (s .left links so) h (badWithSides n f links i) (ap (λ (m : ℕ). firstFrom m 0 (badWithSides n f links i)) (sym (s .limit-is))))
+            (omega arith) (omega arith) (λ x b c. no-sides n f links i x (too-low links x (omega arith))) }
 
   pub sides-end : (i j : ℕ) → Sides i j → limit ≤ j → Scan (i + 1)
   sides-end i j s h =
       let a = s .i-inside in
-      record {
-        few = s .few;
-        limit-is = s .limit-is;
-        inside = omega arith;
-        left = λ links so.
-            left-done limit j (badWithSides n f links i) (beyond limit i (badWithFaults n f links) good) (firstBad n f links) (s .left links so) h;
-      }
+      record { few = s .few; limit-is = s .limit-is; inside = omega arith; left = λ links so.
+          left-done limit j (badWithSides n f links i) (beyond limit i (badWithFaults n f links) good) (firstBad n f links) (s .left links so) h }
+
+  -- on from L = j, which is passed, to the next set apart from F
+  module _ (i j j′ : ℕ) (s : Sides i j) (h : j < limit) (w : j′ ≡ next j i) where
+    jumped : (links : Links) (x : ℕ) → j < x → x < next j i → weak n f links i x ≡ false
+    jumped links x a b = weak-meets n f links i x (λ e. skipped i j x (s .clear) a b (meet-comm x i ∙ e))
+
+    sides-next : ((links : Links) → Given links → Left limit (j + 1) (badWithSides n f links i) (beyond limit i (badWithFaults n f links) good) (firstBad n f links)) → Sides i j′
+    sides-next p =
+        let l = s .limit-is in
+        let q = s .i-inside in
+        let t = next-small n j i (omega arith) (omega arith) in
+        let a = next-after j i (s .clear) in
+        record { few = s .few; limit-is = s .limit-is; i-inside = s .i-inside; inside = omega arith; some = omega arith; clear = ap (λ (x : ℕ). meet x i) w ∙ next-apart j i; small = s .small; left = λ links so.
+            left-jump limit (j + 1) j′ (badWithSides n f links i) (beyond limit i (badWithFaults n f links) good) (firstBad n f links) (p links so) (omega arith) (omega arith)
+            (λ x b c. no-sides n f links i x (jumped links x (omega arith) (omega arith))) }
+
+  pub sides-fall : (i j j′ : ℕ) → Sides i j → j < limit → j′ ≡ next j i → limit - j′ < limit - j
+  sides-fall i j j′ s h w = let a = next-after j i (s .clear) in omega arith
 
   module _ (i j : ℕ) (s : Sides i j) (h : j < limit) (b : Bool) (t : Tells b i j) where
-    pub sides-past : b ≡ false → Sides i (j + 1)
-    sides-past q =
-        record {
-          few = s .few;
-          limit-is = s .limit-is;
-          i-inside = s .i-inside;
-          inside = omega arith;
-          small = s .small;
-          left = λ links so.
-              left-past limit j (badWithSides n f links i) (beyond limit i (badWithFaults n f links) good) (firstBad n f links) (s .left links so) h (no-sides n f links i j (sym (t n links (s .few) so) ∙ q));
-        }
+    side-weak : (links : Links) → Given links → weak n f links i j ≡ b
+    side-weak links so =
+        weak-is n f links i j (s .some) (meet-comm i j ∙ s .clear) ∙ sym (t n links (s .few) (let l = s .limit-is in omega arith) so)
 
-    pub splits-start : b ≡ true → Splits i j 0
+    pub sides-past : b ≡ false → (j′ : ℕ) → j′ ≡ next j i → Sides i j′
+    sides-past q j′ w =
+        sides-next i j j′ s h w λ links so.
+        left-past limit j (badWithSides n f links i) (beyond limit i (badWithFaults n f links) good) (firstBad n f links) (s .left links so) h (no-sides n f links i j (side-weak links so ∙ q))
+
+    -- no R before the first set apart from F and L
+    too-low-right : (links : Links) (x : ℕ) → x < 2 ^ n → x < next 0 (union i j) → badAt n f links i j x ≡ good
+    too-low-right links zero k q = none-empty n f links i j 0 refl
+    too-low-right links (suc x) k q = none-busy n f links i j (suc x) k (skipped (union i j) 0 (suc x) (meet-nothing (union i j)) (omega arith) q)
+
+    pub splits-start : b ≡ true → (busy k : ℕ) → busy ≡ union i j → k ≡ next 0 busy → Splits i j k
     unfolding badWithSides
-    splits-start q =
-        record {
-          few = s .few;
-          limit-is = s .limit-is;
-          i-inside = s .i-inside;
-          j-inside = h;
-          inside = omega arith;
-          small = s .small;
-          weakL = λ links so. sym (t n links (s .few) so) ∙ q;
-          left = λ links so.
-              left-into limit j (badWithSides n f links i) (beyond limit i (badWithFaults n f links) good) (firstBad n f links) (s .left links so) h (badAt n f links i j) (ap (λ (m : ℕ). firstFrom m 0 (badAt n f links i j)) (sym (s .limit-is)));
-        }
+    splits-start q busy k v w =
+        let l = s .limit-is in
+        let p = s .i-inside in
+        let k-is : k ≡ next 0 (union i j) = w ∙ ap (next 0) v in
+        let a = next-after 0 (union i j) (meet-nothing (union i j)) in
+        let m = next-small n 0 (union i j) (pow-pos n) (union-small n i j (omega arith) (omega arith)) in
+        record { sides = s; j-inside = h; inside = omega arith; some = omega arith; clear = ap (λ (x : ℕ). meet x (union i j)) k-is ∙ next-apart 0 (union i j); weakL = λ links so. side-weak links so ∙ q; left = λ links so.
+            left-jump limit 0 k (badAt n f links i j) (beyond limit j (badWithSides n f links i) (beyond limit i (badWithFaults n f links) good)) (firstBad n f links)
+            (left-into limit j (badWithSides n f links i) (beyond limit i (badWithFaults n f links) good) (firstBad n f links) (s .left links so) h (badAt n f links i j) (ap (λ (m : ℕ). firstFrom m 0 (badAt n f links i j)) (sym (s .limit-is))))
+            (omega arith) (omega arith) (λ x b c. too-low-right links x (omega arith) (omega arith)) }
 
-  pub splits-end : (i j k : ℕ) → Splits i j k → limit ≤ k → Sides i (j + 1)
-  splits-end i j k s h =
-      let a = s .j-inside in
-      record {
-        few = s .few;
-        limit-is = s .limit-is;
-        i-inside = s .i-inside;
-        inside = omega arith;
-        small = s .small;
-        left = λ links so.
-            left-done limit k (badAt n f links i j) (beyond limit j (badWithSides n f links i) (beyond limit i (badWithFaults n f links) good)) (firstBad n f links) (s .left links so) h;
-      }
+  pub splits-end : (i j k : ℕ) → Splits i j k → limit ≤ k → (j′ : ℕ) → j′ ≡ next j i → Sides i j′
+  splits-end i j k s h j′ w =
+      sides-next i j j′ (s .sides) (s .j-inside) w λ links so.
+      left-done limit k (badAt n f links i j) (beyond limit j (badWithSides n f links i) (beyond limit i (badWithFaults n f links) good)) (firstBad n f links) (s .left links so) h
 
-  module _ (i j k : ℕ) (s : Splits i j k) (h : k < limit) where
-    passed : ((links : Links) → Sources n links rows → badAt n f links i j k ≡ good) → Splits i j (k + 1)
-    passed q =
-        record {
-          few = s .few;
-          limit-is = s .limit-is;
-          i-inside = s .i-inside;
-          j-inside = s .j-inside;
-          inside = omega arith;
-          small = s .small;
-          weakL = s .weakL;
-          left = λ links so.
-              left-past limit k (badAt n f links i j) (beyond limit j (badWithSides n f links i) (beyond limit i (badWithFaults n f links) good)) (firstBad n f links) (s .left links so) h (q links so);
-        }
+  pub splits-fall : (i j k busy k′ : ℕ) → Splits i j k → k < limit → busy ≡ union i j → k′ ≡ next k busy → limit - k′ < limit - k
+  splits-fall i j k busy k′ s h v w = let a = next-after k (union i j) (s .clear) in let e : k′ ≡ next k (union i j) = w ∙ ap (next k) v in omega arith
 
-    module _ (m : ℕ) (e : m ≡ meet j k) where
-      pub splits-meeting : (m ≡ 0 → ⊥) → Splits i j (k + 1)
-      splits-meeting o = passed (λ links so. none-meeting n f links i j k (ap (λ (x : ℕ). eqb x 0) (sym e) ∙ ne-eqb m 0 o))
+  module _ (i j k : ℕ) (s : Splits i j k) (h : k < limit) (b : Bool) (t : Tells b i k) where
+    k-small : k < 2 ^ n
+    k-small = let l = s .sides .limit-is in omega arith
 
-      module _ (b : Bool) (t : Tells b i k) where
-        pub splits-past : b ≡ false → Splits i j (k + 1)
-        splits-past q = passed (λ links so. none-right n f links i j k (sym (t n links (s .few) so) ∙ q))
+    right-weak : (links : Links) → Given links → weak n f links i k ≡ b
+    right-weak links so =
+        weak-is n f links i k (s .some) (meet-comm i k ∙ apart-left n k i j k-small (s .clear)) ∙ sym (t n links (s .sides .few) k-small so)
 
-        -- the first bad split
-        pub splits-hit : m ≡ 0 → b ≡ true → (servers sound sides c : ℕ) → servers ≡ full (min n 8) → sound ≡ minus servers i → sides ≡ union j k → c ≡ minus sound sides
-            → (links : Links) → Sources n links rows → bad i j c k ≡ firstBad n f links
-        unfolding rest
-        splits-hit o q servers sound sides c p1 p2 p3 p4 links so =
-            let w : min n 8 ≡ n = small-min n (s .few) in
-            let v : rest n i j k ≡ c = ap (λ (x : ℕ). minus (minus (full x) i) (union j k)) (sym w) ∙ cc in
-            let here : badAt n f links i j k ≡ bad i j (rest n i j k) k =
-            bad-here n f links i j k (s .small) (s .weakL links so) (sym (t n links (s .few) so) ∙ q) (ap (λ (x : ℕ). eqb x 0) (sym e) ∙ eq-eqb m 0 o) in
-            let all = left-turn limit k (badAt n f links i j) (beyond limit j (badWithSides n f links i) (beyond limit i (badWithFaults n f links) good)) (firstBad n f links) (s .left links so) h in
-            ap (λ (x : ℕ). bad i j x k) (sym v)
-            ∙ ap (λ (x : Split). orElse x (beyond limit k (badAt n f links i j) (beyond limit j (badWithSides n f links i) (beyond limit i (badWithFaults n f links) good)))) (sym here)
-            ∙ all
-          where
-            small-min : (n : ℕ) → n ≤ 8 → min n 8 ≡ n
-            small-min n h = omega arith
+    pub splits-past : b ≡ false → (busy k′ : ℕ) → busy ≡ union i j → k′ ≡ next k busy → Splits i j k′
+    splits-past q busy k′ v w =
+        let l = s .sides .limit-is in
+        let p = s .sides .i-inside in
+        let g = s .j-inside in
+        let k-is : k′ ≡ next k (union i j) = w ∙ ap (next k) v in
+        let a = next-after k (union i j) (s .clear) in
+        let m = next-small n k (union i j) k-small (union-small n i j (omega arith) (omega arith)) in
+        record { sides = s .sides; j-inside = s .j-inside; inside = omega arith; some = omega arith; clear = ap (λ (x : ℕ). meet x (union i j)) k-is ∙ next-apart k (union i j); weakL = s .weakL; left = λ links so.
+            left-jump limit (k + 1) k′ (badAt n f links i j) (beyond limit j (badWithSides n f links i) (beyond limit i (badWithFaults n f links) good)) (firstBad n f links)
+            (left-past limit k (badAt n f links i j) (beyond limit j (badWithSides n f links i) (beyond limit i (badWithFaults n f links) good)) (firstBad n f links) (s .left links so) h
+            (none-right n f links i j k (right-weak links so ∙ q)))
+            (omega arith) (omega arith)
+            (λ x c d. none-busy n f links i j x (omega arith) (skipped (union i j) k x (s .clear) (omega arith) (omega arith))) }
+
+    -- the first bad split
+    pub splits-hit : b ≡ true → (servers sound sides c : ℕ) → servers ≡ full (min n 8) → sound ≡ minus servers i → sides ≡ union j k → c ≡ minus sound sides
+        → (links : Links) → Given links → bad i j c k ≡ firstBad n f links
+    unfolding rest
+    splits-hit q servers sound sides c p1 p2 p3 p4 links so =
+        let w : min n 8 ≡ n = min-few n (s .sides .few) in
+        let v : rest n i j k ≡ c = ap (λ (x : ℕ). minus (minus (full x) i) (union j k)) (sym w) ∙ cc in
+        let lr : meet j k ≡ 0 = meet-comm j k ∙ apart-right n k i j k-small (s .clear) in
+        let here : badAt n f links i j k ≡ bad i j (rest n i j k) k =
+            bad-here n f links i j k (s .sides .small) (s .weakL links so) (right-weak links so ∙ q) (eq-eqb (meet j k) 0 lr) in
+        let all = left-turn limit k (badAt n f links i j) (beyond limit j (badWithSides n f links i) (beyond limit i (badWithFaults n f links) good)) (firstBad n f links) (s .left links so) h in
+        ap (λ (x : ℕ). bad i j x k) (sym v)
+        ∙ ap (λ (x : Split). orElse x (beyond limit k (badAt n f links i j) (beyond limit j (badWithSides n f links i) (beyond limit i (badWithFaults n f links) good)))) (sym here)
+        ∙ all

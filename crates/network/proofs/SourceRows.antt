@@ -1,27 +1,28 @@
--- The rows of sources, as the code makes and reads them: the loops of `sources`, `source_rows` and `links_into` on plain numbers, each by
--- membership, for every server at once.
---     someBelow-beyond   servers from n on that are not in the test do not matter
---     into-..            the servers with a link into the members of s below v
---     to-..              the sources of v below u
---     rows-..            the rows below v
---     rows-into          with all rows made, the servers that links_into gives
+-- The rows of sources and the tables of halves, as the code makes and reads them: the loops on plain numbers, each by membership, for every
+-- server at once.
+--     someBelow-..     a test on servers: none, those beyond n, two halves
+--     mark-..          the loop of `with_source`: the rows below v have gained server u
+--     rows-..          the loop of `source_rows`: the servers below u are in the rows
+--     half-..          the loop of `half_table`; joined-.. what `into_half` computes
+--     halves-into      the two tables give the servers of V with a link into a set
 -- Assumes nothing.
-use mathlib.Core.Path.{_≡_, refl, sym, ap, _∙_}
-use mathlib.Core.Bool.{Bool, true, false, cond, not, _&&_, _||_}
+use mathlib.Core.Path.{_≡_, refl, sym, ap, ap₂, _∙_}
+use mathlib.Core.Bool.{Bool, true, false, cond, not, _&&_, _||_, or-false, or-assoc}
 use mathlib.Core.List.{List, [], _∷_}
-use Prim.Native.Nat.{ℕ, zero, suc, _+_, _-_, _≤_, _<_}
+use Prim.Native.Nat.{ℕ, zero, suc, _+_, _-_, _*_, _/_, _%_, _^_, _≤_, _<_}
 use native.Mathlib.Numerals.{add-one}
 use native.Mathlib.Omega.{arith}
-use lib.ListN.{length, getD, set, getD-replicate, List·getD-eq-default}
+use lib.ListN.{length, getD, set, getD-replicate, length-set}
 use lib.Seq.{getD-set-same, getD-set-other}
 use lib.Dec.{eqb, ltb}
+use lib.Pow.{pow-mono}
 use borrow.Author.Tests.{lt-ltb, le-ltb, eqb-true, eqb-false, ltb-true, ltb-false}
-use Rattle.facts.proofs.Bools.{cases, same, and-left, and-right, both, or-cases}
+use Rattle.facts.proofs.Bools.{cases, same}
 use Rattle.sets.specs.Sets.{Set, has, union, single}
-use Rattle.sets.proofs.Members.{has-union, has-single, has-empty}
+use Rattle.sets.proofs.Members.{has-union, has-single, has-empty, has-beyond, has-mod, has-div}
 use Rattle.network.specs.Links.{Links, linkedIn}
 use Rattle.network.specs.Split.{someBelow}
-use Rattle.network.specs.Weak.{Sources, SourcesTo}
+use Rattle.network.specs.Weak.{Sources, Joined, HalfTable}
 use Rattle.network.proofs.Neighbours.{someBelow-same}
 
 pub someBelow-none : (n : ℕ) (p : Set) → ((i : ℕ) → i < n → p i ≡ false) → someBelow n p ≡ false
@@ -38,121 +39,187 @@ someBelow-beyond n (suc k) p h =
     let s : suc k + n ≡ suc (k + n) = omega arith in
     rw s (rw e ih)
 
--- one number more
-ltb-next-same : (u : ℕ) → ltb u (u + 1) ≡ true
-ltb-next-same u = lt-ltb u (u + 1) (omega arith)
+-- the servers below m, and the k from m on
+pub someBelow-halves : (k m : ℕ) (p : Set) → someBelow (k + m) p ≡ (someBelow k (λ (i : ℕ). p (m + i)) || someBelow m p)
+unfolding someBelow
+someBelow-halves zero m p = let e : 0 + m ≡ m = omega arith in rw e refl
+someBelow-halves (suc k) m p =
+    let ih = someBelow-halves k m p in
+    let s : suc k + m ≡ suc (k + m) = omega arith in
+    let t : m + k ≡ k + m = omega arith in
+    rw (s, t, ih) (sym (or-assoc (p (k + m)) (someBelow k (λ (i : ℕ). p (m + i))) (someBelow m p)))
 
-pub ltb-next : (w u : ℕ) → (u ≡ w → ⊥) → ltb w (u + 1) ≡ ltb w u
+ltb-next : (w u : ℕ) → (u ≡ w → ⊥) → ltb w (u + 1) ≡ ltb w u
 ltb-next w u other =
     same (ltb w (u + 1)) (ltb w u) (λ e. lt-ltb w u (let h = ltb-true w (u + 1) e in omega arith)) (λ e. lt-ltb w (u + 1) (let h = ltb-true w u e in omega arith))
 
-ltb-self : (u : ℕ) → ltb u u ≡ false
-ltb-self u = le-ltb u u (omega arith)
+-- with_source
 
--- links_into
+-- the rows below v have gained what `one` holds where `row` has a mark; those from v on are as they were
+pub record Marked (rows₀ : List ℕ) (row : List Bool) (one v : ℕ) (rows : List ℕ) : Type 0 where
+  pub inside : v ≤ 8
+  pub long : length rows ≡ 8
+  pub gained : (x w : ℕ) → x < v → has (getD rows x 0) w ≡ (has (getD rows₀ x 0) w || (getD row x false && has one w))
+  pub kept : (x : ℕ) → v ≤ x → getD rows x 0 ≡ getD rows₀ x 0
 
--- all holds the servers with a link into the members of s below v
-abbrev pub Into : List ℕ → ℕ → ℕ → ℕ → Type 0
-Into rows s v all = (u : ℕ) → has all u ≡ someBelow v (λ (w : ℕ). has s w && has (getD rows w 0) u)
+pub mark-starts : (rows : List ℕ) (row : List Bool) (one : ℕ) → length rows ≡ 8 → Marked rows row one 0 rows
+mark-starts rows row one l = record { inside = omega arith; long = l; gained = λ x w h. absurd (omega arith); kept = λ x h. refl }
 
-pub into-starts : (rows : List ℕ) (s : ℕ) → Into rows s 0 0
-unfolding someBelow
-into-starts rows s u = has-empty u
-
-module _ (rows : List ℕ) (s v all : ℕ) (so : Into rows s v all) where
-  pub into-joins : (b : Bool) → b ≡ has s v → b ≡ true → (all′ : ℕ) → all′ ≡ union all (getD rows v 0) → Into rows s (v + 1) all′
-  unfolding someBelow
-  into-joins b q t all′ e u =
-      let h = so u in
-      let j = has-union all (getD rows v 0) u in
-      let c = add-one v in
-      cases (has (getD rows v 0) u) (λ x. cases (has all u) (λ y. cc) (λ y. cc)) (λ x. cases (has all u) (λ y. cc) (λ y. cc))
-
-  pub into-passes : (b : Bool) → b ≡ has s v → b ≡ false → Into rows s (v + 1) all
-  unfolding someBelow
-  into-passes b q t u = let h = so u in let c = add-one v in cc
-
--- sources
-
--- row holds the servers below u with a link to v
-abbrev pub To : Links → ℕ → ℕ → ℕ → Type 0
-To links v u row = (w : ℕ) → has row w ≡ (ltb w u && linkedIn links w v)
-
-pub to-starts : (links : Links) (v : ℕ) → To links v 0 0
-to-starts links v w = let e = le-ltb w 0 (omega arith) in let z = has-empty w in cc
-
-module _ (links : Links) (v u row : ℕ) (so : To links v u row) (b : Bool) (q : b ≡ linkedIn links u v) where
-  pub to-joins : u < 8 → b ≡ true → (one row′ : ℕ) → one ≡ single u → row′ ≡ union row one → To links v (u + 1) row′
-  to-joins k t one row′ i e w =
-      let h = so w in
-      let j = has-union row one w in
-      let o : has one w ≡ (ltb u 8 && eqb u w) = ap (λ (x : ℕ). has x w) i ∙ has-single u w in
-      let l = lt-ltb u 8 k in
-      cases (eqb u w)
-      (λ x. here w x (eqb-true u w x) h j o l)
-      (λ x. let n = ltb-next w u (eqb-false u w x) in cases (ltb w u && linkedIn links w v) (λ y. cc) (λ y. cc))
+module _ (rows₀ : List ℕ) (row : List Bool) (one v : ℕ) (rows : List ℕ) (m : Marked rows₀ row one v rows) (k : v < 8) where
+  pub mark-joins : getD row v false ≡ true → (more : ℕ) → more ≡ union (getD rows v 0) one → Marked rows₀ row one (v + 1) (set rows v more)
+  mark-joins t more e =
+      record {
+        inside = omega arith;
+        long = simp length-set (m .long);
+        gained = λ x w h. cases (eqb x v) (λ q. here x w (eqb-true x v q)) (λ q. below x w h (eqb-false x v q));
+        kept = λ x h. getD-set-other rows v x more 0 (λ q. let z : x ≡ v = q in absurd (omega arith)) ∙ m .kept x (omega arith);
+      }
     where
-      here : (w : ℕ) → eqb u w ≡ true → u ≡ w → has row w ≡ (ltb w u && linkedIn links w v) → has (union row one) w ≡ (has row w || has one w) → has one w ≡ (ltb u 8 && eqb u w) → ltb u 8 ≡ true
-          → has row′ w ≡ (ltb w (u + 1) && linkedIn links w v)
-      here w x p h j o l =
-          let n : ltb w (u + 1) ≡ true = lt-ltb w (u + 1) (omega arith) in
-          let m : linkedIn links w v ≡ true = ap (λ (y : ℕ). linkedIn links y v) (sym p) ∙ sym q ∙ t in
-          let a : has (union row one) w ≡ (has row w || true) = cc in
-          let d : (has row w || true) ≡ true = cases (has row w) (λ y. cc) (λ y. cc) in
-          cc
+      here : (x w : ℕ) → x ≡ v → has (getD (set rows v more) x 0) w ≡ (has (getD rows₀ x 0) w || (getD row x false && has one w))
+      here x w q =
+          rw q
+          (let l = m .long in
+          let g = getD-set-same rows v more 0 (omega arith) in
+          let o = m .kept v (omega arith) in
+          let j = has-union (getD rows v 0) one w in
+          cc)
 
-  pub to-passes : b ≡ false → To links v (u + 1) row
-  to-passes t w =
-      let h = so w in
-      cases (eqb u w)
-      (λ x. let p = eqb-true u w x in
-      let m : linkedIn links w v ≡ false = ap (λ (y : ℕ). linkedIn links y v) (sym p) ∙ sym q ∙ t in
-      cases (ltb w u) (λ y. cases (ltb w (u + 1)) (λ z. cc) (λ z. cc)) (λ y. cases (ltb w (u + 1)) (λ z. cc) (λ z. cc)))
-      (λ x. let n = ltb-next w u (eqb-false u w x) in cc)
+      below : (x w : ℕ) → x < v + 1 → (x ≡ v → ⊥) → has (getD (set rows v more) x 0) w ≡ (has (getD rows₀ x 0) w || (getD row x false && has one w))
+      below x w h o = let g = getD-set-other rows v x more 0 o in let r = m .gained x w (omega arith) in cc
+
+  pub mark-passes : getD row v false ≡ false → Marked rows₀ row one (v + 1) rows
+  mark-passes t =
+      record {
+        inside = omega arith;
+        long = m .long;
+        gained = λ x w h. cases (eqb x v) (λ q. here x w (eqb-true x v q)) (λ q. let o = eqb-false x v q in m .gained x w (omega arith));
+        kept = λ x h. m .kept x (omega arith);
+      }
+    where
+      here : (x w : ℕ) → x ≡ v → has (getD rows x 0) w ≡ (has (getD rows₀ x 0) w || (getD row x false && has one w))
+      here x w q = rw q (let o = m .kept v (omega arith) in cases (has (getD rows₀ v 0) w) (λ y. cc) (λ y. cc))
+
+pub mark-ends : (rows₀ : List ℕ) (row : List Bool) (one : ℕ) (rows : List ℕ) → Marked rows₀ row one 8 rows
+    → (v w : ℕ) → v < 8 → has (getD rows v 0) w ≡ (has (getD rows₀ v 0) w || (getD row v false && has one w))
+mark-ends rows₀ row one rows m = m .gained
 
 -- source_rows
 
--- the rows below v are made, those from v on are empty
-pub record Rows (n : ℕ) (links : Links) (v : ℕ) (rows : List ℕ) : Type 0 where
-  pub long : length rows ≡ 8
-  pub made : (w u : ℕ) → has (getD rows w 0) u ≡ (ltb w v && (ltb u n && linkedIn links u w))
+-- the rows hold the servers below u that have the links
+abbrev pub Rows : Links → ℕ → List ℕ → Type 0
+Rows links u rows = (v w : ℕ) → v < 8 → has (getD rows v 0) w ≡ (ltb w u && linkedIn links w v)
 
--- eight empty rows, written out as the code has them
-pub zeros-all : (w : ℕ) → getD {A = ℕ} (0 ∷ 0 ∷ 0 ∷ 0 ∷ 0 ∷ 0 ∷ 0 ∷ 0 ∷ []) w 0 ≡ 0
-zeros-all w = cases (ltb w 8) (λ e. getD-replicate 8 w 0 0 (ltb-true w 8 e)) (λ e. List·getD-eq-default (0 ∷ 0 ∷ 0 ∷ 0 ∷ 0 ∷ 0 ∷ 0 ∷ 0 ∷ []) 0 (ltb-false w 8 e))
+pub rows-start : (links : Links) → Rows links 0 (0 ∷ 0 ∷ 0 ∷ 0 ∷ 0 ∷ 0 ∷ 0 ∷ 0 ∷ [])
+rows-start links v w h =
+    let z = getD-replicate {A = ℕ} 8 v 0 0 h in
+    let e = has-empty w in
+    let t = le-ltb w 0 (omega arith) in
+    ap (λ (x : ℕ). has x w) z ∙ cc
 
-pub rows-start : (n : ℕ) (links : Links) (rows : List ℕ) → length rows ≡ 8 → ((w : ℕ) → getD rows w 0 ≡ 0) → Rows n links 0 rows
-rows-start n links rows l z =
-    record { long = l; made = λ w u. let e = z w in let t = le-ltb w 0 (omega arith) in let y = has-empty u in cc }
-
-pub rows-turn : (n : ℕ) (links : Links) (v : ℕ) (rows : List ℕ) → Rows n links v rows → v < 8 → (row : ℕ) → SourcesTo n links v row → Rows n links (v + 1) (set rows v row)
-rows-turn n links v rows r k row so =
-    record { long = simp lib.ListN.length-set (r .long); made = λ w u. go w u }
+pub rows-turn : (links : Links) (u : ℕ) (rows more : List ℕ) → Rows links u rows → u < 8
+    → ((v w : ℕ) → v < 8 → has (getD more v 0) w ≡ (has (getD rows v 0) w || (getD (getD links u []) v false && has (single u) w)))
+    → Rows links (u + 1) more
+unfolding linkedIn
+rows-turn links u rows more r k g v w h =
+    let a = r v w h in
+    let b = g v w h in
+    let o = has-single u w in
+    let l = lt-ltb u 8 k in
+    cases (eqb u w)
+    (λ x. here x (eqb-true u w x) a b o l)
+    (λ x. let n = ltb-next w u (eqb-false u w x) in cases (getD (getD links u []) v false) (λ y. cases (has (getD rows v 0) w) (λ z. cc) (λ z. cc)) (λ y. cases (has (getD rows v 0) w) (λ z. cc) (λ z. cc)))
   where
-    go : (w u : ℕ) → has (getD (set rows v row) w 0) u ≡ (ltb w (v + 1) && (ltb u n && linkedIn links u w))
-    go w u =
-        cases (eqb v w)
-        (λ x. let p = eqb-true v w x in rw (← p) (let g = getD-set-same rows v row 0 (let l = r .long in omega arith) in let t = lt-ltb v (v + 1) (omega arith) in let s = so u in cc))
-        (λ x. let o = eqb-false v w x in let g = getD-set-other rows v w row 0 (λ e. o (sym e)) in let t = ltb-next w v o in let s = r .made w u in cc)
+    here : eqb u w ≡ true → u ≡ w → has (getD rows v 0) w ≡ (ltb w u && getD (getD links w []) v false)
+        → has (getD more v 0) w ≡ (has (getD rows v 0) w || (getD (getD links u []) v false && has (single u) w)) → has (single u) w ≡ (ltb u 8 && eqb u w) → ltb u 8 ≡ true
+        → has (getD more v 0) w ≡ (ltb w (u + 1) && getD (getD links w []) v false)
+    here x p a b o l =
+        let n : ltb w (u + 1) ≡ true = lt-ltb w (u + 1) (omega arith) in
+        let m : ltb w u ≡ false = le-ltb w u (omega arith) in
+        let q : getD (getD links u []) v false ≡ getD (getD links w []) v false = ap (λ (y : ℕ). getD (getD links y []) v false) p in
+        cases (getD (getD links w []) v false) (λ y. cc) (λ y. cc)
 
-pub rows-sources : (n : ℕ) (links : Links) (rows : List ℕ) → Rows n links n rows → Sources n links rows
-rows-sources n links rows r = r .made
+-- into_half
 
--- with all rows made, u has a link into s by the rows exactly if it is a server of V with one
-module _ (n : ℕ) (links : Links) (rows : List ℕ) (small : n ≤ 8) (so : Sources n links rows) (s u : ℕ) where
-  pub rows-into : someBelow 8 (λ (v : ℕ). has s v && has (getD rows v 0) u) ≡ (ltb u n && someBelow n (λ (v : ℕ). has s v && linkedIn links u v))
+has-kept : (b : Bool) (row u : ℕ) → has (cond b row 0) u ≡ (b && has row u)
+has-kept true row u = refl
+has-kept false row u = has-empty u
+
+pub joined-four : (rows : List ℕ) (first x a b c d ab abc abcd : ℕ)
+    → a ≡ cond (has x 0) (getD rows first 0) 0 → b ≡ cond (has x 1) (getD rows (first + 1) 0) 0
+    → c ≡ cond (has x 2) (getD rows (first + 2) 0) 0 → d ≡ cond (has x 3) (getD rows (first + 3) 0) 0
+    → ab ≡ union b a → abc ≡ union c ab → abcd ≡ union d abc → Joined rows first x abcd
+unfolding someBelow
+joined-four rows first x a b c d ab abc abcd ea eb ec ed p q r u =
+    let a′ : has a u ≡ (has x 0 && has (getD rows (first + 0) 0) u) = let z : first + 0 ≡ first = omega arith in rw z (ap (λ (y : ℕ). has y u) ea ∙ has-kept (has x 0) (getD rows first 0) u) in
+    let b′ : has b u ≡ (has x 1 && has (getD rows (first + 1) 0) u) = ap (λ (y : ℕ). has y u) eb ∙ has-kept (has x 1) (getD rows (first + 1) 0) u in
+    let c′ : has c u ≡ (has x 2 && has (getD rows (first + 2) 0) u) = ap (λ (y : ℕ). has y u) ec ∙ has-kept (has x 2) (getD rows (first + 2) 0) u in
+    let d′ : has d u ≡ (has x 3 && has (getD rows (first + 3) 0) u) = ap (λ (y : ℕ). has y u) ed ∙ has-kept (has x 3) (getD rows (first + 3) 0) u in
+    let i = has-union b a u in
+    let j = has-union c ab u in
+    let k = has-union d abc u in
+    let o = or-false (has a u) in
+    cc
+
+-- half_table
+
+pub record Halving (rows : List ℕ) (first x : ℕ) (table : List ℕ) : Type 0 where
+  pub inside : x ≤ 16
+  pub long : length table ≡ 16
+  pub made : (y : ℕ) → y < x → Joined rows first y (getD table y 0)
+
+pub half-starts : (rows : List ℕ) (first : ℕ) (table : List ℕ) → length table ≡ 16 → Halving rows first 0 table
+half-starts rows first table l = record { inside = omega arith; long = l; made = λ y h. absurd (omega arith) }
+
+pub half-turn : (rows : List ℕ) (first x : ℕ) (table : List ℕ) → Halving rows first x table → x < 16 → (into : ℕ) → Joined rows first x into → Halving rows first (x + 1) (set table x into)
+half-turn rows first x table m k into j =
+    record {
+      inside = omega arith;
+      long = simp length-set (m .long);
+      made = λ y h. cases (eqb y x) (λ q. here y (eqb-true y x q)) (λ q. below y h (eqb-false y x q));
+    }
+  where
+    here : (y : ℕ) → y ≡ x → Joined rows first y (getD (set table x into) y 0)
+    here y q = rw q (let l = m .long in let g = getD-set-same table x into 0 (omega arith) in λ u. ap (λ (z : ℕ). has z u) g ∙ j u)
+
+    below : (y : ℕ) → y < x + 1 → (y ≡ x → ⊥) → Joined rows first y (getD (set table x into) y 0)
+    below y h o u = let g = getD-set-other table x y into 0 o in ap (λ (z : ℕ). has z u) g ∙ m .made y (omega arith) u
+
+-- the lower and the upper four servers of a set
+
+module _ (n : ℕ) (links : Links) (rows : List ℕ) (few : n ≤ 8) (so : Sources n links rows) (s : ℕ) (small : s < 2 ^ n) (u : ℕ) where
+  -- by the rows, u has a link into s exactly if it is a server of V with one
+  rows-into : someBelow 8 (λ (v : ℕ). has s v && has (getD rows v 0) u) ≡ (ltb u n && someBelow n (λ (v : ℕ). has s v && linkedIn links u v))
   rows-into =
       let e : 8 - n + n ≡ 8 = omega arith in
       ap (λ (m : ℕ). someBelow m (λ (v : ℕ). has s v && has (getD rows v 0) u)) (sym e)
-      ∙ someBelow-beyond n (8 - n) (λ (v : ℕ). has s v && has (getD rows v 0) u) past
+      ∙ someBelow-beyond n (8 - n) (λ (v : ℕ). has s v && has (getD rows v 0) u) (λ i h. let b = has-beyond n s i small h in cc)
       ∙ cases (ltb u n) known (λ q. none q ∙ ap (λ (b : Bool). b && someBelow n (λ (v : ℕ). has s v && linkedIn links u v)) (sym q))
     where
-      past : (i : ℕ) → n ≤ i → (has s i && has (getD rows i 0) u) ≡ false
-      past i h = let t = le-ltb i n h in let m = so i u in cases (has s i) (λ x. cc) (λ x. cc)
-
       known : ltb u n ≡ true → someBelow n (λ (v : ℕ). has s v && has (getD rows v 0) u) ≡ (ltb u n && someBelow n (λ (v : ℕ). has s v && linkedIn links u v))
       known q =
-          rw q (someBelow-same n (λ (v : ℕ). has s v && has (getD rows v 0) u) (λ (v : ℕ). has s v && linkedIn links u v) (λ i k. let t = lt-ltb i n k in let m = so i u in cc))
+          rw q (someBelow-same n (λ (v : ℕ). has s v && has (getD rows v 0) u) (λ (v : ℕ). has s v && linkedIn links u v) (λ i k. let m = so i u (omega arith) in cc))
 
       none : ltb u n ≡ false → someBelow n (λ (v : ℕ). has s v && has (getD rows v 0) u) ≡ false
-      none q = someBelow-none n (λ (v : ℕ). has s v && has (getD rows v 0) u) (λ i k. let t = lt-ltb i n k in let m = so i u in cases (has s i) (λ x. cc) (λ x. cc))
+      none q = someBelow-none n (λ (v : ℕ). has s v && has (getD rows v 0) u) (λ i k. let m = so i u (omega arith) in cases (has s i) (λ x. cc) (λ x. cc))
+
+  module _ (lower upper : List ℕ) (low : HalfTable rows 0 lower) (high : HalfTable rows 4 upper) where
+    lower-part : has (getD lower (s % 16) 0) u ≡ someBelow 4 (λ (i : ℕ). has s i && has (getD rows i 0) u)
+    lower-part =
+        low (s % 16) (omega arith) u
+        ∙ someBelow-same 4 (λ (i : ℕ). has (s % 16) i && has (getD rows (0 + i) 0) u) (λ (i : ℕ). has s i && has (getD rows i 0) u)
+        (λ i k. let a = has-mod 4 s i k in let z : 0 + i ≡ i = omega arith in rw z (cc))
+
+    upper-part : s < 256 → has (getD upper (s / 16) 0) u ≡ someBelow 4 (λ (i : ℕ). has s (4 + i) && has (getD rows (4 + i) 0) u)
+    upper-part h =
+        high (s / 16) (omega arith) u
+        ∙ someBelow-same 4 (λ (i : ℕ). has (s / 16) i && has (getD rows (4 + i) 0) u) (λ (i : ℕ). has s (4 + i) && has (getD rows (4 + i) 0) u)
+        (λ i k. let a = has-div 4 s i in cc)
+
+    pub halves-into : (into : ℕ) → into ≡ union (getD upper (s / 16) 0) (getD lower (s % 16) 0) → has into u ≡ (ltb u n && someBelow n (λ (v : ℕ). has s v && linkedIn links u v))
+    halves-into into e =
+        let byte : s < 256 = let m = pow-mono few in omega arith in
+        let a = lower-part in
+        let b = upper-part byte in
+        let c = has-union (getD upper (s / 16) 0) (getD lower (s % 16) 0) u in
+        let d = someBelow-halves 4 4 (λ (v : ℕ). has s v && has (getD rows v 0) u) in
+        ap (λ (x : ℕ). has x u) e ∙ c ∙ ap₂ (λ (x y : Bool). x || y) b a ∙ sym d ∙ rows-into

@@ -1,67 +1,58 @@
 -- Why the split test may look at one side at a time: in a split the set that faces a side, with C, is what F and the side leave of V. So the
 -- incoming neighbours that count depend on F and that side alone, and a split is bad exactly if both sides are weak.
 --     size-outside   what the code counts is the neighbours outside F
---     weak-..        the three answers of `is_weak`
+--     weak-..        which sets can be sides
 --     split-weak     a split is bad exactly if F is small, both sides are weak and apart
---     no-..          what a failed test says of the splits that are passed over; bad-here what all of them say
+--     none-.., no-.. what a failed test says of the splits that are passed over; bad-here what all of them say
 -- Assumes nothing.
 use mathlib.Core.Path.{_≡_, refl, sym, ap, _∙_}
 use mathlib.Core.Bool.{Bool, true, false, cond, not, _&&_, _||_}
-use mathlib.Core.List.{List}
 use Prim.Native.Nat.{ℕ, zero, suc, _+_, _-_, _^_, _≤_, _<_}
 use native.Mathlib.Omega.{arith}
-use lib.ListN.{getD}
 use lib.Dec.{eqb, ltb, leb}
 use borrow.Author.Tests.{lt-ltb, le-ltb, eq-eqb, ne-eqb, eqb-true}
 use Rattle.facts.proofs.Bools.{cases, clash, same, is-false, bools, both, and-left, and-right, not-true}
 use Rattle.sets.specs.Sets.{Set, has, union, meet, minus, full, count, size}
-use Rattle.sets.proofs.Members.{has-union, has-meet, has-minus, has-full, has-empty}
+use Rattle.sets.proofs.Members.{has-union, has-minus, has-full, meet-apart, meet-comm, apart-union}
 use Rattle.sets.proofs.Counts.{count-same, count-beyond}
 use Rattle.network.specs.Links.{Links, linkedIn}
 use Rattle.network.specs.Split.{Split, good, bad, someBelow, incoming, held, rest, isSplit, isBad, badAt, firstFrom, badWithSides, badWithFaults}
-use Rattle.network.specs.Weak.{outside, weak, Sources}
+use Rattle.network.specs.Weak.{outside, weak}
 use Rattle.network.proofs.Search.{breaks, firstFrom-all}
-use Rattle.network.proofs.SourceRows.{Into, rows-into}
 
-module _ (n : ℕ) (links : Links) (rows : List ℕ) (small : n ≤ 8) (so : Sources n links rows) (F s into near out : ℕ) where
+module _ (n : ℕ) (links : Links) (few : n ≤ 8) (F s into near out : ℕ)
+    (i : (u : ℕ) → has into u ≡ (ltb u n && someBelow n (λ (v : ℕ). has s v && linkedIn links u v))) (p : near ≡ minus into s) (q : out ≡ minus near F) where
   -- u is one of the servers that the code counts
-  counted : Into rows s 8 into → near ≡ minus into s → out ≡ minus near F
-      → (u : ℕ) → has out u ≡ (ltb u n && (not (has F u) && incoming n links s u))
+  counted : (u : ℕ) → has out u ≡ (ltb u n && (not (has F u) && incoming n links s u))
   unfolding incoming
-  counted i p q u =
+  counted u =
       let a = i u in
-      let b = rows-into n links rows small so s u in
       let c = has-minus into s u in
       let d = has-minus near F u in
       cases (ltb u n)
       (λ x. cases (has F u) (λ y. cases (has near u) (λ z. cc) (λ z. cc)) (λ y. cases (has s u) (λ z. cases (has into u) (λ t. cc) (λ t. cc)) (λ z. cases (someBelow n (λ (v : ℕ). has s v && linkedIn links u v)) (λ t. cc) (λ t. cc))))
       (λ x. cc)
 
-  pub size-outside : Into rows s 8 into → near ≡ minus into s → out ≡ minus near F → size out ≡ outside n links F s
+  pub size-outside : size out ≡ outside n links F s
   unfolding size outside
-  size-outside i p q =
+  size-outside =
       let e : 8 - n + n ≡ 8 = omega arith in
-      let at = counted i p q in
       ap (λ (m : ℕ). count m (has out)) (sym e)
-      ∙ count-beyond n (8 - n) (has out) (λ u h. let t = le-ltb u n h in let w = at u in cc)
-      ∙ count-same n (has out) (λ (u : ℕ). not (has F u) && incoming n links s u) (λ u h. let t = lt-ltb u n h in let w = at u in cc)
+      ∙ count-beyond n (8 - n) (has out) (λ u h. let t = le-ltb u n h in let w = counted u in cc)
+      ∙ count-same n (has out) (λ (u : ℕ). not (has F u) && incoming n links s u) (λ u h. let t = lt-ltb u n h in let w = counted u in cc)
 
-module _ (n f : ℕ) (links : Links) (F s : ℕ) where
-  pub weak-empty : s ≡ 0 → false ≡ weak n f links F s
+module _ (n f : ℕ) (links : Links) (F : ℕ) where
+  pub weak-empty : weak n f links F 0 ≡ false
   unfolding weak
-  weak-empty e = let t = eq-eqb s 0 e in cc
+  weak-empty = let t = eq-eqb 0 0 refl in cc
 
-  pub weak-meets : (s ≡ 0 → ⊥) → (m : ℕ) → m ≡ meet F s → (m ≡ 0 → ⊥) → false ≡ weak n f links F s
+  pub weak-meets : (s : ℕ) → (meet F s ≡ 0 → ⊥) → weak n f links F s ≡ false
   unfolding weak
-  weak-meets z m e o = let t = ne-eqb s 0 z in let q = ne-eqb m 0 o in cc
+  weak-meets s o = let q = ne-eqb (meet F s) 0 o in cases (eqb s 0) (λ x. cc) (λ x. cc)
 
-  pub weak-counts : (s ≡ 0 → ⊥) → (m : ℕ) → m ≡ meet F s → m ≡ 0 → (k : ℕ) → k ≡ outside n links F s → leb k f ≡ weak n f links F s
+  pub weak-is : (s : ℕ) → 0 < s → meet F s ≡ 0 → weak n f links F s ≡ leb (outside n links F s) f
   unfolding weak
-  weak-counts z m e o k h = let t = ne-eqb s 0 z in let q = eq-eqb m 0 o in let g = ap (λ (x : ℕ). leb x f) h in cc
-
--- no server is in both of two sets whose meet is empty
-meet-apart : (a b u : ℕ) → eqb (meet a b) 0 ≡ true → (has a u && has b u) ≡ false
-meet-apart a b u e = sym (has-meet a b u) ∙ ap (λ (s : ℕ). has s u) (eqb-true (meet a b) 0 e) ∙ has-empty u
+  weak-is s z e = let t = ne-eqb s 0 (λ (q : s ≡ 0). absurd (omega arith)) in let q = eq-eqb (meet F s) 0 e in cc
 
 has-rest : (n F L R u : ℕ) → has (rest n F L R) u ≡ ((ltb u n && not (has F u)) && not (has L u || has R u))
 unfolding rest
@@ -79,7 +70,7 @@ module _ (n : ℕ) (links : Links) (F X s C : ℕ) (left : (u : ℕ) → has C u
   faced u h =
       let a = has-union X C u in
       let b = left u in
-      let c = meet-apart F X u apart in
+      let c = meet-apart F X (eqb-true (meet F X) 0 apart) u in
       let t = lt-ltb u n h in
       cases (has s u)
       (λ x. cases (has (union X C) u) (λ y. cases (has F u) (λ z. cc) (λ z. cc)) (λ y. cases (has F u) (λ z. cc) (λ z. cc)))
@@ -146,9 +137,19 @@ module _ (n f : ℕ) (links : Links) (F L R : ℕ) where
   pub none-right : weak n f links F R ≡ false → badAt n f links F L R ≡ good
   none-right e = none-at (split-weak ∙ cases (leb (size F) f) (λ x. cases (weak n f links F L) (λ y. cc) (λ y. cc)) (λ x. cc))
 
-  pub none-meeting : eqb (meet L R) 0 ≡ false → badAt n f links F L R ≡ good
+  pub none-empty : R ≡ 0 → badAt n f links F L R ≡ good
+  none-empty z = none-right (ap (weak n f links F) z ∙ weak-empty n f links F)
+
+  none-meeting : eqb (meet L R) 0 ≡ false → badAt n f links F L R ≡ good
   none-meeting e =
       none-at (split-weak ∙ cases (leb (size F) f) (λ x. cases (weak n f links F L) (λ y. cases (weak n f links F R) (λ z. cc) (λ z. cc)) (λ y. cc)) (λ x. cc))
+
+  -- a set that meets F or L is no R
+  pub none-busy : R < 2 ^ n → (meet R (union F L) ≡ 0 → ⊥) → badAt n f links F L R ≡ good
+  none-busy h o =
+      cases (eqb (meet L R) 0)
+      (λ a. none-right (weak-meets n f links F R (λ b. o (apart-union n R F L h (meet-comm R F ∙ b) (meet-comm R L ∙ eqb-true (meet L R) 0 a)))))
+      none-meeting
 
   pub bad-here : leb (size F) f ≡ true → weak n f links F L ≡ true → weak n f links F R ≡ true → eqb (meet L R) 0 ≡ true → badAt n f links F L R ≡ bad F L (rest n F L R) R
   unfolding badAt

@@ -94,7 +94,7 @@ fn is_weak(sizes: &[u8; 256], lower: &[u8; 16], upper: &[u8; 16], f: u8, fault: 
 {
     let low = (s % 16) as usize;
     let high = (s / 16) as usize;
-    let into = sets::union(lower[low], upper[high]);
+    let into = sets::union(upper[high], lower[low]);
     let neighbours = sets::minus(into, s);
     let outside = sets::minus(neighbours, fault) as usize;
     sizes[outside] <= f

@@ -1,11 +1,13 @@
 -- Membership, for every server and every number of servers at once.
 --     has-suc       digit i + 1 of s is digit i of s / 2
+--     has-mod       the digits below k; has-div those from k on
 --     has-union     membership in a union; has-meet, has-minus likewise
 --     has-beyond    a set below 2^n has no member from n on
 --     has-full      the full set of n servers has the servers below n
 --     same-members  two sets below 2^n with the same members below n are equal
 --     encode-has    the number of a test has the test's members; encode-small bounds it
 --     has-single    server i alone has just i
+--     meet-apart    sets with an empty meet share no member; apart-meet the other way; apart-union and its halves
 --     within-in     a subset's members are members; in-within the other way
 -- Assumes nothing.
 use mathlib.Core.Path.{_≡_, refl, sym, ap, _∙_}
@@ -14,8 +16,8 @@ use Prim.Native.Nat.{ℕ, zero, suc, _+_, _-_, _*_, _/_, _%_, _^_, _≤_, _<_, m
 use native.Mathlib.Nat.{pow-suc, one-mul}
 use native.Mathlib.Numerals.{add-one}
 use native.Mathlib.Omega.{arith}
-use lib.Bits.{bitAnd, bitOr, bitXor, and-step, or-step, xor-step, and-shr, or-shr, xor-shr, differ, or-lt, xor-lt, and-lt, and-le-l}
-use lib.Pow.{shr-shr, shl-exact, pow-pos}
+use lib.Bits.{bitAnd, bitOr, bitXor, and-step, or-step, xor-step, and-shr, or-shr, xor-shr, differ, or-lt, xor-lt, and-lt, and-le-l, and-comm, and-zero-l}
+use lib.Pow.{shr-shr, shl-exact, pow-pos, mod-mod-pow, field}
 use lib.Dec.{eqb, ltb, lit<, eqb·zero-suc, eqb·suc-zero, eqb·suc-suc}
 use borrow.Author.Tests.{lt-ltb, le-ltb, eq-eqb, eqb-true, eqb-false, ltb-true, ltb-false}
 use Rattle.facts.proofs.Bools.{cases, clash, same, and-left, and-right, both}
@@ -36,6 +38,21 @@ has-zero s = let e : s / 2 ^ 0 ≡ s = omega arith in rw e refl
 pub has-suc : (s i : ℕ) → has s (suc i) ≡ has (s / 2) i
 unfolding has
 has-suc s i = let e : 1 + i ≡ suc i = omega arith in rw (← e, ← shr-shr s 1 i) refl
+
+-- the digits below k, and those from k on
+
+pub has-mod : (k s i : ℕ) → i < k → has (s % 2 ^ k) i ≡ has s i
+has-mod zero s i h = absurd (omega arith)
+has-mod (suc k) s zero h =
+    let e : s % 2 ^ suc k % 2 ≡ s % 2 = rw (← add-one k) (mod-mod-pow s k 1) in
+    has-zero (s % 2 ^ suc k) ∙ ap (λ (d : ℕ). eqb d 1) e ∙ sym (has-zero s)
+has-mod (suc k) s (suc i) h =
+    let e : s % 2 ^ suc k / 2 ≡ s / 2 % 2 ^ k = rw (← add-one k) (field s k 1) in
+    has-suc (s % 2 ^ suc k) i ∙ ap (λ (x : ℕ). has x i) e ∙ has-mod k (s / 2) i (omega arith) ∙ sym (has-suc s i)
+
+pub has-div : (k s i : ℕ) → has (s / 2 ^ k) i ≡ has s (k + i)
+unfolding has
+has-div k s i = rw (shr-shr s k i) refl
 
 -- on digits the least, the greatest and the difference are "and", "or" and "not the same"
 digits-and : (a b : ℕ) → a < 2 → b < 2 → eqb (min a b) 1 ≡ (eqb a 1 && eqb b 1)
@@ -243,3 +260,40 @@ pub in-within : (n a b : ℕ) → a < 2 ^ n → b < 2 ^ n → ((i : ℕ) → i <
 unfolding within
 in-within n a b p q h =
     eq-eqb (bitAnd a b) a (sym (meet-is a b) ∙ same-members n (meet a b) a (meet-small n a b p q) p (λ i k. has-meet a b i ∙ same (has a i && has b i) (has a i) (and-left (has a i) (has b i)) (λ e. both (has a i) (has b i) e (h i k e))))
+
+-- sets that are apart
+
+pub meet-comm : (a b : ℕ) → meet a b ≡ meet b a
+unfolding meet
+meet-comm a b = and-comm a b
+
+pub meet-nothing : (b : ℕ) → meet 0 b ≡ 0
+unfolding meet
+meet-nothing b = and-zero-l b
+
+pub meet-apart : (a b : ℕ) → meet a b ≡ 0 → (i : ℕ) → (has a i && has b i) ≡ false
+meet-apart a b e i = sym (has-meet a b i) ∙ ap (λ (s : ℕ). has s i) e ∙ has-empty i
+
+meet-under : (n a b : ℕ) → a < 2 ^ n → meet a b < 2 ^ n
+unfolding meet
+meet-under n a b h = let l = and-le-l a b in omega arith
+
+pub apart-meet : (n a b : ℕ) → a < 2 ^ n → ((i : ℕ) → i < n → (has a i && has b i) ≡ false) → meet a b ≡ 0
+apart-meet n a b h p = no-member n (meet a b) (meet-under n a b h) (λ i k. has-meet a b i ∙ p i k)
+
+-- a set is apart from a union exactly if it is apart from both
+module _ (n x a b : ℕ) (h : x < 2 ^ n) where
+  pub apart-union : meet x a ≡ 0 → meet x b ≡ 0 → meet x (union a b) ≡ 0
+  apart-union p q =
+      apart-meet n x (union a b) h
+      (λ i k. let u = has-union a b i in let v = meet-apart x a p i in let w = meet-apart x b q i in cases (has x i) (λ y. cases (has a i) (λ z. cc) (λ z. cc)) (λ y. cc))
+
+  pub apart-left : meet x (union a b) ≡ 0 → meet x a ≡ 0
+  apart-left p =
+      apart-meet n x a h
+      (λ i k. let u = has-union a b i in let v = meet-apart x (union a b) p i in cases (has x i) (λ y. cases (has a i) (λ z. cc) (λ z. cc)) (λ y. cc))
+
+  pub apart-right : meet x (union a b) ≡ 0 → meet x b ≡ 0
+  apart-right p =
+      apart-meet n x b h
+      (λ i k. let u = has-union a b i in let v = meet-apart x (union a b) p i in cases (has x i) (λ y. cases (has b i) (λ z. cases (has a i) (λ t. cc) (λ t. cc)) (λ z. cc)) (λ y. cc))

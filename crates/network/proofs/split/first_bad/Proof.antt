@@ -6,171 +6,199 @@ use native.Mathlib.Omega.{arith}
 use borrow.Author.Needs.{needs}
 use Rattle.network.specs.declared.split.SplitAnswer.{SplitAnswer}
 use Rattle.network.specs.Answers.{splitAnswerOf}
-use Rattle.network.proofs.Scans.{Scan, Sides, Splits, scan-starts, scan-ends, scan-past, sides-start, sides-end, sides-past, splits-start, splits-end, splits-meeting, splits-past, splits-hit, limit-of}
+use Rattle.network.specs.Weak.{Tables}
+use Rattle.network.proofs.Scans.{Scan, Sides, Splits, limit-of, scan-starts, scan-ends, scan-past, sides-start, sides-end, sides-past, splits-start, splits-end, splits-past, splits-hit, sides-fall, splits-fall}
 use Rattle.network.proofs.split.first_bad.Statement.{statement}
 use Rattle.network.proofs.split.first_bad.Tie as tie
 use Rattle.network.proofs.split.first_bad.Reads as reads
 use Rattle.network.proofs.split.first_bad.Lts as lts
+use Rattle.network.proofs.split.half_table.Reads as half-table-reads
 use Rattle.network.proofs.split.is_weak.Reads as is-weak-reads
 use Rattle.network.proofs.split.source_rows.Reads as source-rows-reads
 use Rattle.sets.proofs.full.Reads as full-reads
-use Rattle.sets.proofs.meet.Reads as meet-reads
 use Rattle.sets.proofs.minus.Reads as minus-reads
-use Rattle.sets.proofs.size.Reads as size-reads
+use Rattle.sets.proofs.next_apart.Reads as next-apart-reads
+use Rattle.sets.proofs.sizes.Reads as sizes-reads
 use Rattle.sets.proofs.union.Reads as union-reads
 
 abbrev Inv-loop2 : tie.InvT-loop2
-Inv-loop2 n f rows servers limit found₀ i fault j left k₀ found k = (found ≡ SplitAnswer.Good) × Splits n f rows limit i j k
+Inv-loop2 n f lower upper sizes servers limit found₀ i fault at j left busy k₀ found k = (found ≡ SplitAnswer.Good) × Splits n f limit sizes lower upper i j k
 
 abbrev μ-loop2 : tie.MeasureT-loop2
-μ-loop2 n f rows servers limit found₀ i fault j left k₀ found k = limit - k
+μ-loop2 n f lower upper sizes servers limit found₀ i fault at j left busy k₀ found k = limit - k
 
 abbrev Inv-loop : tie.InvT-loop
-Inv-loop n f rows servers limit found₀ i fault j₀ found j = (found ≡ SplitAnswer.Good) × Sides n f rows limit i j
+Inv-loop n f lower upper sizes servers limit found₀ i fault at j₀ found j = (found ≡ SplitAnswer.Good) × Sides n f limit sizes lower upper i j
 
 abbrev μ-loop : tie.MeasureT-loop
-μ-loop n f rows servers limit found₀ i fault j₀ found j = limit - j
+μ-loop n f lower upper sizes servers limit found₀ i fault at j₀ found j = limit - j
 
 abbrev Inv-scan : tie.InvT-scan
-Inv-scan n f rows servers limit found₀ i₀ found i = (found ≡ SplitAnswer.Good) × Scan n f rows limit i
+Inv-scan n f lower upper sizes servers limit found₀ i₀ found i = (found ≡ SplitAnswer.Good) × Scan n f limit sizes lower upper i
 
 abbrev μ-scan : tie.MeasureT-scan
-μ-scan n f rows servers limit found₀ i₀ found i = limit - i
+μ-scan n f lower upper sizes servers limit found₀ i₀ found i = limit - i
 
--- src/split.rt:90:9
+-- src/split.rt:109:9
 source-rows-requires :
     tie.Need-source-rows-requires Inv-loop2 μ-loop2 Inv-loop μ-loop Inv-scan μ-scan
 source-rows-requires c κs = search needs
 
--- src/split.rt:91:9
+-- src/split.rt:110:17
+half-table-requires :
+    tie.Need-half-table-requires Inv-loop2 μ-loop2 Inv-loop μ-loop Inv-scan μ-scan
+half-table-requires c κs = search needs
+
+-- src/split.rt:111:17
+half-table-requires-2 :
+    tie.Need-half-table-requires-2 Inv-loop2 μ-loop2 Inv-loop μ-loop Inv-scan μ-scan
+half-table-requires-2 c κs = search needs
+
+-- src/split.rt:112:17
+sizes-requires : tie.Need-sizes-requires Inv-loop2 μ-loop2 Inv-loop μ-loop Inv-scan μ-scan
+sizes-requires c κs = search needs
+
+-- src/split.rt:113:9
 full-requires : tie.Need-full-requires Inv-loop2 μ-loop2 Inv-loop μ-loop Inv-scan μ-scan
 full-requires c κs = search needs
 
--- src/split.rt:92:18
+-- src/split.rt:114:18
 cast-limit : tie.Need-cast-limit Inv-loop2 μ-loop2 Inv-loop μ-loop Inv-scan μ-scan
 cast-limit c = search needs
 
--- src/split.rt:92:17
+-- src/split.rt:114:17
 add-limit : tie.Need-add-limit Inv-loop2 μ-loop2 Inv-loop μ-loop Inv-scan μ-scan
 add-limit c = search needs
 
--- src/split.rt:94:5
+-- src/split.rt:116:5
 scan-holds : tie.Need-scan-holds Inv-loop2 μ-loop2 Inv-loop μ-loop Inv-scan μ-scan
-scan-holds c = (refl, scan-starts _ _ _ _ (c .before .before .pre) (limit-of _ _ (c .before .before .pre) (c .full .ensures)))
+scan-holds c = (refl, scan-starts _ _ _ _ _ _ (c .before .before .before .before .before .pre) (limit-of _ _ (c .before .before .before .before .before .pre) (c .full .ensures)))
 
--- src/split.rt:95:21
+-- src/split.rt:117:21
 cast-fault : tie.Need-cast-fault Inv-loop2 μ-loop2 Inv-loop μ-loop Inv-scan μ-scan
 cast-fault c = search needs
 
--- src/split.rt:96:12
-size-requires : tie.Need-size-requires Inv-loop2 μ-loop2 Inv-loop μ-loop Inv-scan μ-scan
-size-requires c κs = search needs
+-- src/split.rt:118:18
+cast-at : tie.Need-cast-at Inv-loop2 μ-loop2 Inv-loop μ-loop Inv-scan μ-scan
+cast-at c = search needs
 
--- src/split.rt:97:13
+-- src/split.rt:119:12
+array-read-if1 : tie.Need-array-read-if1 Inv-loop2 μ-loop2 Inv-loop μ-loop Inv-scan μ-scan
+array-read-if1 c = search needs
+
+-- src/split.rt:120:17
+next-apart-requires :
+    tie.Need-next-apart-requires Inv-loop2 μ-loop2 Inv-loop μ-loop Inv-scan μ-scan
+next-apart-requires c κs = search needs
+
+-- src/split.rt:121:13
 loop-holds : tie.Need-loop-holds Inv-loop2 μ-loop2 Inv-loop μ-loop Inv-scan μ-scan
-loop-holds c = (c .before .before .before .scan .inv .0, sides-start _ _ _ _ _ (c .before .before .before .scan .inv .1) (c .before .before .scan-test .taken) _ (c .before .size .ensures) (c .if1 .taken))
+loop-holds c = let l = c .before .before .before .scan in
+    (l .inv .0,
+    sides-start _ _ _ _ _ _ _ (l .inv .1) (c .before .before .scan-test .taken) _ (c .before .before .before .before .before .sizes .ensures .entry (l .i) (search needs)) (c .before .if1 .taken) _ (c .next-apart .ensures))
 
--- src/split.rt:98:28
+-- src/split.rt:122:28
 cast-left : tie.Need-cast-left Inv-loop2 μ-loop2 Inv-loop μ-loop Inv-scan μ-scan
 cast-left c = search needs
 
--- src/split.rt:99:20
+-- src/split.rt:123:20
 is-weak-requires : tie.Need-is-weak-requires Inv-loop2 μ-loop2 Inv-loop μ-loop Inv-scan μ-scan
 is-weak-requires c κs = search needs
 
--- src/split.rt:100:21
-loop2-holds : tie.Need-loop2-holds Inv-loop2 μ-loop2 Inv-loop μ-loop Inv-scan μ-scan
-loop2-holds c = (c .before .before .before .loop .inv .0, splits-start _ _ _ _ _ _ (c .before .before .before .loop .inv .1) (c .before .before .loop-test .taken) _ (c .before .is-weak .ensures) (c .if2 .taken))
-
--- src/split.rt:101:37
-cast-right : tie.Need-cast-right Inv-loop2 μ-loop2 Inv-loop μ-loop Inv-scan μ-scan
-cast-right c = search needs
-
--- src/split.rt:102:28
-meet-requires : tie.Need-meet-requires Inv-loop2 μ-loop2 Inv-loop μ-loop Inv-scan μ-scan
-meet-requires c κs = search needs
-
--- src/split.rt:103:32
-is-weak-requires-2 : tie.Need-is-weak-requires-2 Inv-loop2 μ-loop2 Inv-loop μ-loop Inv-scan μ-scan
-is-weak-requires-2 c κs = search needs
-
--- src/split.rt:104:37
-minus-requires : tie.Need-minus-requires Inv-loop2 μ-loop2 Inv-loop μ-loop Inv-scan μ-scan
-minus-requires c κs = search needs
-
--- src/split.rt:105:37
+-- src/split.rt:124:25
 union-requires : tie.Need-union-requires Inv-loop2 μ-loop2 Inv-loop μ-loop Inv-scan μ-scan
 union-requires c κs = search needs
 
--- src/split.rt:106:37
+-- src/split.rt:125:25
+next-apart-requires-2 :
+    tie.Need-next-apart-requires-2 Inv-loop2 μ-loop2 Inv-loop μ-loop Inv-scan μ-scan
+next-apart-requires-2 c κs = search needs
+
+-- src/split.rt:126:21
+loop2-holds : tie.Need-loop2-holds Inv-loop2 μ-loop2 Inv-loop μ-loop Inv-scan μ-scan
+loop2-holds c = let l = c .before .before .before .before .before .before .before .before .loop in
+    (l .inv .0,
+    splits-start _ _ _ _ _ _ _ _ (l .inv .1) (c .before .before .before .before .before .before .before .loop-test .taken) _ (c .before .before .before .is-weak .ensures) (c .before .before .if2 .taken) _ _ (c .before .union .ensures) (c .next-apart2 .ensures))
+
+-- src/split.rt:127:37
+cast-right : tie.Need-cast-right Inv-loop2 μ-loop2 Inv-loop μ-loop Inv-scan μ-scan
+cast-right c = search needs
+
+-- src/split.rt:128:28
+is-weak-requires-2 : tie.Need-is-weak-requires-2 Inv-loop2 μ-loop2 Inv-loop μ-loop Inv-scan μ-scan
+is-weak-requires-2 c κs = search needs
+
+-- src/split.rt:129:33
+minus-requires : tie.Need-minus-requires Inv-loop2 μ-loop2 Inv-loop μ-loop Inv-scan μ-scan
+minus-requires c κs = search needs
+
+-- src/split.rt:130:33
+union-requires-2 : tie.Need-union-requires-2 Inv-loop2 μ-loop2 Inv-loop μ-loop Inv-scan μ-scan
+union-requires-2 c κs = search needs
+
+-- src/split.rt:131:33
 minus-requires-2 : tie.Need-minus-requires-2 Inv-loop2 μ-loop2 Inv-loop μ-loop Inv-scan μ-scan
 minus-requires-2 c κs = search needs
 
--- src/split.rt:100:25
-add-k : tie.Need-add-k Inv-loop2 μ-loop2 Inv-loop μ-loop Inv-scan μ-scan
-add-k c = search needs
+-- src/split.rt:140:25
+next-apart-requires-3 :
+    tie.Need-next-apart-requires-3 Inv-loop2 μ-loop2 Inv-loop μ-loop Inv-scan μ-scan
+next-apart-requires-3 c κs = search needs
 
--- src/split.rt:100:21
+-- src/split.rt:126:21
 loop2-less : tie.Need-loop2-less Inv-loop2 μ-loop2 Inv-loop μ-loop Inv-scan μ-scan
-loop2-less c = search needs
+loop2-less c = splits-fall _ _ _ _ _ _ _ _ _ _ _ (c .before .before .before .before .before .before .before .loop2 .inv .1) (c .before .before .before .before .before .before .loop2-test .taken) (c .before .before .before .before .before .before .before .before .before .union .ensures) (c .next-apart3 .ensures)
 
--- src/split.rt:100:21
+-- src/split.rt:126:21
 loop2-again : tie.Need-loop2-again Inv-loop2 μ-loop2 Inv-loop μ-loop Inv-scan μ-scan
-loop2-again c = let l = c .before .before .before .loop2 in
-    let t = c .before .before .loop2-test .taken in
-    let m = c .before .meet in (
-      l .inv .0,
-      ⊎-elim
-          (λ w. splits-past _ _ _ _ _ _ _ (l .inv .1) t _ (m .ensures) _ (w .1 .ensures) (w .2 .left))
-          (λ w. splits-meeting _ _ _ _ _ _ _ (l .inv .1) t _ (m .ensures) (w .left))
-          (c .if3 .came),
-    )
+loop2-again c = let l = c .before .before .before .before .before .before .before .loop2 in
+    (l .inv .0,
+    splits-past _ _ _ _ _ _ _ _ _ (l .inv .1) (c .before .before .before .before .before .before .loop2-test .taken) _ (c .before .before .is-weak2 .ensures) (c .before .if3 .left) _ _ (c .before .before .before .before .before .before .before .before .before .union .ensures) (c .next-apart3 .ensures))
 
--- src/split.rt:97:17
-add-j : tie.Need-add-j Inv-loop2 μ-loop2 Inv-loop μ-loop Inv-scan μ-scan
-add-j c = search needs
+-- src/split.rt:143:17
+next-apart-requires-4 :
+    tie.Need-next-apart-requires-4 Inv-loop2 μ-loop2 Inv-loop μ-loop Inv-scan μ-scan
+next-apart-requires-4 c κs = search needs
 
--- src/split.rt:97:13
+-- src/split.rt:121:13
 loop-less : tie.Need-loop-less Inv-loop2 μ-loop2 Inv-loop μ-loop Inv-scan μ-scan
-loop-less c = search needs
+loop-less c = sides-fall _ _ _ _ _ _ _ _ _ (c .before .before .before .before .before .before .before .loop .inv .1) (c .before .before .before .before .before .before .loop-test .taken) (c .next-apart4 .ensures)
 
--- src/split.rt:97:13
+-- src/split.rt:121:13
 loop-again : tie.Need-loop-again Inv-loop2 μ-loop2 Inv-loop μ-loop Inv-scan μ-scan
-loop-again c = let l = c .before .before .before .loop in
-    let t = c .before .before .loop-test .taken in
-    let d = c .before .is-weak in
+loop-again c = let l = c .before .before .before .before .before .before .before .loop in
     ⊎-elim
-    (λ w. (w .3 ∙ w .1 .inv .0, splits-end _ _ _ _ _ _ _ (w .1 .inv .1) (w .2 .left)))
-    (λ w. (w .1 ∙ l .inv .0, sides-past _ _ _ _ _ _ (l .inv .1) t _ (d .ensures) (w .0 .left)))
-    (c .if2 .came)
+    (λ w. (w .5 ∙ w .3 .inv .0, splits-end _ _ _ _ _ _ _ _ _ (w .3 .inv .1) (w .4 .left) _ (c .next-apart4 .ensures)))
+    (λ w. (w .1 ∙ l .inv .0, sides-past _ _ _ _ _ _ _ _ (l .inv .1) (c .before .before .before .before .before .before .loop-test .taken) _ (c .before .before .is-weak .ensures) (w .0 .left) _ (c .next-apart4 .ensures)))
+    (c .before .if2 .came)
 
--- src/split.rt:94:16
+-- src/split.rt:116:16
 add-i : tie.Need-add-i Inv-loop2 μ-loop2 Inv-loop μ-loop Inv-scan μ-scan
 add-i c = search needs
 
--- src/split.rt:94:5
+-- src/split.rt:116:5
 scan-less : tie.Need-scan-less Inv-loop2 μ-loop2 Inv-loop μ-loop Inv-scan μ-scan
 scan-less c = search needs
 
--- src/split.rt:94:5
+-- src/split.rt:116:5
 scan-again : tie.Need-scan-again Inv-loop2 μ-loop2 Inv-loop μ-loop Inv-scan μ-scan
-scan-again c = let l = c .before .before .before .scan in
-    let t = c .before .before .scan-test .taken in
-    let d = c .before .size in
+scan-again c = let l = c .before .before .scan in
     ⊎-elim
-    (λ w. (w .3 ∙ w .1 .inv .0, sides-end _ _ _ _ _ _ (w .1 .inv .1) (w .2 .left)))
-    (λ w. (w .1 ∙ l .inv .0, scan-past _ _ _ _ _ (l .inv .1) t _ (d .ensures) (w .0 .left)))
+    (λ w. (w .4 ∙ w .2 .inv .0, sides-end _ _ _ _ _ _ _ _ (w .2 .inv .1) (w .3 .left)))
+    (λ w. (w .1 ∙ l .inv .0, scan-past _ _ _ _ _ _ _ (l .inv .1) (c .before .scan-test .taken) _ (c .before .before .before .before .sizes .ensures .entry (l .i) (search needs)) (w .0 .left)))
     (c .if1 .came)
 
--- src/split.rt:86:1
+-- src/split.rt:105:1
 returns : tie.Need-returns Inv-loop2 μ-loop2 Inv-loop μ-loop Inv-scan μ-scan
 returns c = ap splitAnswerOf (c .before .scan .inv .0)
-    ∙ scan-ends _ _ _ _ _ (c .before .scan .inv .1) (c .scan-test .left) _ (c .before .before .before .source-rows .ensures)
+    ∙ scan-ends _ _ _ _ _ _ _ (c .before .scan .inv .1) (c .scan-test .left) _
+    (record { rows = c .before .before .before .before .before .before .source-rows .result; sources = c .before .before .before .before .before .before .source-rows .ensures; sized = c .before .before .before .sizes .ensures; low = c .before .before .before .before .before .half-table .ensures; high = c .before .before .before .before .half-table2 .ensures })
 
--- src/split.rt:86:1
+-- src/split.rt:105:1
 returns-2 : tie.Need-returns-2 Inv-loop2 μ-loop2 Inv-loop μ-loop Inv-scan μ-scan
-returns-2 c = splits-hit _ _ _ _ _ _ _ (c .before .before .before .before .before .before .before .before .loop2 .inv .1) (c .before .before .before .before .before .before .before .loop2-test .taken) _ (c .before .before .before .before .before .before .meet .ensures) _ (c .before .before .before .before .is-weak2 .ensures) (c .before .before .before .before .before .if3 .taken) (c .before .before .before .if4 .taken)
-    _ _ _ _ (c .before .before .before .before .before .before .before .before .before .before .before .before .before .before .before .before .before .full .ensures) (c .before .before .minus .ensures) (c .before .union .ensures) (c .minus2 .ensures) _ (c .before .before .before .before .before .before .before .before .before .before .before .before .before .before .before .before .before .before .source-rows .ensures)
+returns-2 c = splits-hit _ _ _ _ _ _ _ _ _ (c .before .before .before .before .before .before .before .before .before .loop2 .inv .1) (c .before .before .before .before .before .before .before .before .loop2-test .taken) _ (c .before .before .before .before .is-weak2 .ensures) (c .before .before .before .if3 .taken)
+    _ _ _ _ (c .before .before .before .before .before .before .before .before .before .before .before .before .before .before .before .before .before .before .before .before .before .before .before .full .ensures) (c .before .before .minus .ensures) (c .before .union2 .ensures) (c .minus2 .ensures) _
+    (record { rows = c .before .before .before .before .before .before .before .before .before .before .before .before .before .before .before .before .before .before .before .before .before .before .before .before .before .before .before .source-rows .result; sources = c .before .before .before .before .before .before .before .before .before .before .before .before .before .before .before .before .before .before .before .before .before .before .before .before .before .before .before .source-rows .ensures; sized = c .before .before .before .before .before .before .before .before .before .before .before .before .before .before .before .before .before .before .before .before .before .before .before .before .sizes .ensures; low = c .before .before .before .before .before .before .before .before .before .before .before .before .before .before .before .before .before .before .before .before .before .before .before .before .before .before .half-table .ensures; high = c .before .before .before .before .before .before .before .before .before .before .before .before .before .before .before .before .before .before .before .before .before .before .before .before .before .half-table2 .ensures })
 
 pub first-bad-spec : {M : Type 1} → statement M
 first-bad-spec =
@@ -183,26 +211,32 @@ first-bad-spec =
     Inv-scan
     μ-scan
     source-rows-requires
+    half-table-requires
+    half-table-requires-2
+    sizes-requires
     full-requires
     cast-limit
     add-limit
     scan-holds
     cast-fault
-    size-requires
+    cast-at
+    array-read-if1
+    next-apart-requires
     loop-holds
     cast-left
     is-weak-requires
+    union-requires
+    next-apart-requires-2
     loop2-holds
     cast-right
-    meet-requires
     is-weak-requires-2
     minus-requires
-    union-requires
+    union-requires-2
     minus-requires-2
-    add-k
+    next-apart-requires-3
     loop2-less
     loop2-again
-    add-j
+    next-apart-requires-4
     loop-less
     loop-again
     add-i
