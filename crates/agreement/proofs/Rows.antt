@@ -1,10 +1,11 @@
--- The words of a refusal, from what the refusal crate says of it.
+-- The words of a refusal, from what the refusal crate says of it; the links that a card leaves in rows without marks.
 -- Assumes nothing.
 use mathlib.Core.Path.{_≡_, refl, sym, ap, _∙_}
 use mathlib.Core.List.{List, [], _∷_}
 use Prim.Native.Nat.{ℕ}
 use Rattle.refusal.specs.Refused.{Refused, whoseOf, numberOf, placeOf}
-use Rattle.network.specs.Card.{Head, turned}
+use Rattle.network.specs.Card.{Network, network, refused, Head, turned, linksOf, linksAfter}
+use Rattle.network.specs.Links.{noLinks}
 use Rattle.network.specs.Split.{Split, unread}
 use Rattle.agreement.specs.Words.{headWords, splitWords}
 
@@ -14,3 +15,7 @@ module _ (r : Refused) (w m p : ℕ) (a : w ≡ whoseOf r) (b : m ≡ numberOf r
 
   pub split-refused : (s : Split) → s ≡ unread r → 2 ∷ w ∷ m ∷ p ∷ 0 ∷ [] ≡ splitWords s
   split-refused s e = rw e (cc)
+
+pub links-fresh : (a : Network) → linksAfter a noLinks ≡ linksOf a
+links-fresh (network n f links) = refl
+links-fresh (refused r) = refl

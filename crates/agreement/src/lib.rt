@@ -16,7 +16,8 @@ ghost use Rattle.agreement.specs.Words.{headWords, splitWords};
 pub extern "C" fn agreement_read_card(card: &[u8], answer: &mut [u64; 4])
     ensures { λ r. ⌜ now (answer .exit) ≡ headWords (headOf (readCard (now (card .entry)))) ⌝ }
 {
-    let reading = card::read_card(card);
+    let mut links = [[false; 8]; 8];
+    let reading = card::read_card(card, &mut links);
     match reading {
         Reading::Network { n, f } => {
             *answer = [0, n as u64, f as u64, 0];
@@ -35,7 +36,8 @@ pub extern "C" fn agreement_read_card(card: &[u8], answer: &mut [u64; 4])
 pub extern "C" fn agreement_linked(card: &[u8], u: u8, v: u8) -> bool
     ensures { λ r. ⌜ r ≡ linkedIn (linksOf (readCard (now (card .entry)))) u v ⌝ }
 {
-    let links = card::card_links(card);
+    let mut links = [[false; 8]; 8];
+    let _reading = card::read_card(card, &mut links);
     network::links::linked(links, u, v)
 }
 

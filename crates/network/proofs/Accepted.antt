@@ -1,5 +1,5 @@
--- What a command of an accepted card can be: the head at place 0, a link, or the end at the card's last byte. `Collecting s at links` is the
--- invariant of the loop that collects the links: the reader of an accepted card would stand at `at` with these links. Assumes nothing.
+-- What a command of an accepted card can be: the head at place 0, a link, or the end at the card's last byte. Every other outcome of a step
+-- would be the card's refusal. Assumes nothing.
 use mathlib.Core.Path.{_≡_, refl, sym, ap, _∙_}
 use mathlib.Core.Logic.{_⊎_, inl, inr, ⊎-elim}
 use mathlib.Core.Bool.{Bool, true, false, cond, not}
@@ -11,19 +11,12 @@ use lib.Dec.{eqb, ltb}
 use borrow.Author.Tests.{ltb-true, ltb-false, eqb-true, eqb-false, le-ltb, lt-ltb}
 use Rattle.facts.proofs.Bools.{cases, clash}
 use Rattle.refusal.specs.Refused.{Refused, card}
-use Rattle.network.specs.Links.{Links, noLinks, linkedIn, withLink}
-use Rattle.network.specs.Card.{Network, network, refused, Step, more, done, turnedBack, headFits, linkFits, headAt, linkAt, endAt, stepAt, commands, readCard, Head, head, turned, headOf, linksOf}
-use Rattle.network.proofs.Reading.{Reading, reading-starts, reading-answer, reading-goes}
+use Rattle.network.specs.Links.{Links, linkedIn, withLink}
+use Rattle.network.specs.Card.{network, refused, more, done, turnedBack, headFits, linkFits, headAt, linkAt, endAt, stepAt, readCard}
+use Rattle.network.proofs.Reading.{Reading, reading-answer}
 
 abbrev pub Accepted : List ℕ → Type 0
 Accepted s = (r : Refused) → readCard s ≡ refused r → ⊥
-
--- a head and a refusal differ
-head-not-turned : (n f : ℕ) (r : Refused) (h : Head) → h ≡ head n f → h ≡ turned r → ⊥
-head-not-turned n f r h p q = let z : _≡_ {A = ℕ} 0 1 = cc in omega arith
-
-pub accepted-head : (s : List ℕ) (n f : ℕ) → headOf (readCard s) ≡ head n f → Accepted s
-accepted-head s n f e r q = head-not-turned n f r (headOf (readCard s)) e (ap headOf q)
 
 module _ {s : List ℕ} {at n f : ℕ} {links : Links} (r : Reading s at n f links) (ok : Accepted s) where
   not-back : (number place : ℕ) → stepAt s at n f links ≡ turnedBack number place → ⊥
@@ -94,52 +87,7 @@ module _ {s : List ℕ} {at n f : ℕ} {links : Links} (r : Reading s at n f lin
       λ z. absurd (not-back 2 at (simp (h, x, y, z))))
       λ h. absurd (not-back 2 at (simp h))
 
--- the reader of an accepted card stands at `at`, past the head, with these links
-pub record Collecting (s : List ℕ) (at : ℕ) (links : Links) : Type 0 where
-  pub n : ℕ
-  pub f : ℕ
-  pub reading : Reading s at n f links
-  pub ok : Accepted s
-  pub later : 0 < at
-
 pub accepted-short : (s : List ℕ) → Accepted s → length s ≤ 1024
 unfolding readCard
 accepted-short s ok =
     cases (ltb 1024 (length s)) (λ e. absurd (ok (card 1 0) (simp e))) (λ e. ltb-false 1024 (length s) e)
-
-pub collecting-starts : (s : List ℕ) → Accepted s → Collecting s 3 noLinks
-collecting-starts s ok = go (outcome r ok)
-  where
-    r : Reading s 0 0 0 noLinks
-    r = reading-starts s (accepted-short s ok)
-
-    go : Headed r ok ⊎ (Linked r ok ⊎ Ended r ok) → Collecting s 3 noLinks
-    go (inl w) =
-        record { n = getD s 1 0; f = getD s 2 0; reading = reading-goes r 3 (getD s 1 0) (getD s 2 0) noLinks (w .step) (omega arith) (w .room); ok = ok; later = omega arith }
-    go (inr (inl w)) = absurd (w .later refl)
-    go (inr (inr w)) = absurd (w .later refl)
-
-pub collecting-turn : {s : List ℕ} {at : ℕ} {links : Links} → Collecting s at links → at + 3 ≤ length s → (links′ : Links) → links′ ≡ withLink links (getD s (at + 1) 0) (getD s (at + 2) 0) → Collecting s (at + 3) links′
-collecting-turn {s} {at} {links} c room links′ e = go (outcome (c .reading) (c .ok))
-  where
-    go : Headed (c .reading) (c .ok) ⊎ (Linked (c .reading) (c .ok) ⊎ Ended (c .reading) (c .ok)) → Collecting s (at + 3) links′
-    go (inl w) = let z = w .first in let l = c .later in absurd (omega arith)
-    go (inr (inl w)) =
-        record { n = c .n; f = c .f; reading = rw e (reading-goes (c .reading) (at + 3) (c .n) (c .f) (withLink links (getD s (at + 1) 0) (getD s (at + 2) 0)) (w .step) (omega arith) (w .room)); ok = c .ok; later = omega arith }
-    go (inr (inr w)) = let l = w .last in absurd (omega arith)
-
-pub collecting-ends : {s : List ℕ} {at : ℕ} {links : Links} → Collecting s at links → length s < at + 3 → links ≡ linksOf (readCard s)
-collecting-ends {s} {at} {links} c few = go (outcome (c .reading) (c .ok))
-  where
-    go : Headed (c .reading) (c .ok) ⊎ (Linked (c .reading) (c .ok) ⊎ Ended (c .reading) (c .ok)) → links ≡ linksOf (readCard s)
-    go (inl w) = let z = w .room in absurd (omega arith)
-    go (inr (inl w)) = let z = w .room in absurd (omega arith)
-    go (inr (inr w)) = ap linksOf (reading-answer (c .reading) (network (c .n) (c .f) links) (w .step))
-
--- a refused card has no links
-pub refused-links : (s : List ℕ) (r : Refused) → headOf (readCard s) ≡ turned r → noLinks ≡ linksOf (readCard s)
-refused-links s r e = go (readCard s) e
-  where
-    go : (a : Network) → headOf a ≡ turned r → noLinks ≡ linksOf a
-    go (network n f links) q = absurd (head-not-turned n f r (head n f) refl q)
-    go (refused x) q = refl

@@ -6,7 +6,7 @@ use Prim.Native.Nat.{ℕ, _≤_}
 use native.Mathlib.Omega.{arith}
 use Rattle.refusal.specs.Refused.{Refused}
 use Rattle.network.specs.Links.{Links}
-use Rattle.network.specs.Card.{Network, network, refused, readCard, Head, head, turned, headOf, linksOf}
+use Rattle.network.specs.Card.{Network, network, refused, readCard, Head, head, turned, headOf, linksOf, linksAfter}
 use Rattle.network.specs.Split.{Split, unread, firstBad, splitOf, splitTest}
 use Rattle.network.specs.Proper.{Proper}
 use Rattle.network.proofs.Networks.{card-proper}
@@ -27,6 +27,12 @@ pub refused-split : (s : List ℕ) (r : Refused) → headOf (readCard s) ≡ tur
 unfolding splitTest
 refused-split s r e = ap splitOf (sym (refused-of (readCard s) r e))
 
-pub network-split : (s : List ℕ) (n f : ℕ) (links : Links) → headOf (readCard s) ≡ head n f → links ≡ linksOf (readCard s) → firstBad n f links ≡ splitTest s
+-- an accepted card's links take the place of those that were lent
+links-after : (a : Network) (n f : ℕ) (lent : Links) → headOf a ≡ head n f → linksAfter a lent ≡ linksOf a
+links-after (network m g links) n f lent e = refl
+links-after (refused r) n f lent e = cc
+
+pub network-split : (s : List ℕ) (n f : ℕ) (lent links : Links) → headOf (readCard s) ≡ head n f → links ≡ linksAfter (readCard s) lent → firstBad n f links ≡ splitTest s
 unfolding splitTest
-network-split s n f links e q = ap (firstBad n f) q ∙ ap splitOf (sym (network-of (readCard s) n f e))
+network-split s n f lent links e q =
+    ap (firstBad n f) (q ∙ links-after (readCard s) n f lent e) ∙ ap splitOf (sym (network-of (readCard s) n f e))

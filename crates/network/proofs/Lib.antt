@@ -1,7 +1,7 @@
 -- Main          the theorems that a user relies on
 -- Marks         marks past a row's end, or past the rows
 -- Reading       the card reader's loop: what is left to read gives the answer of the whole
--- Accepted      what the commands of an accepted card are, and the loop that collects its links
+-- Accepted      what the commands of an accepted card are
 -- Networks      the network of an accepted card is proper
 -- Heads         what the reader's answer says of the split test
 -- Search        what a search over one range, and over three nested ones, finds

@@ -4,25 +4,29 @@ use mathlib.Core.Bool.{Bool, true, false}
 use Prim.Native.Nat.{ℕ, _+_, _-_, _≤_, _<_}
 use native.Mathlib.Omega.{arith}
 use borrow.Author.Needs.{needs}
-use Rattle.network.specs.Links.{Links, linkedIn}
+use Rattle.network.specs.Links.{Links, noLinks, linkedIn}
+use Rattle.network.specs.Card.{readCard}
+use Rattle.agreement.proofs.Rows.{links-fresh}
 use Rattle.agreement.proofs.agreement_linked.Statement.{statement}
 use Rattle.agreement.proofs.agreement_linked.Tie as tie
 use Rattle.agreement.proofs.agreement_linked.Reads as reads
 use Rattle.agreement.proofs.agreement_linked.Lts as lts
-use Rattle.network.proofs.card.card_links.Reads as card-links-reads
+use Rattle.network.proofs.card.read_card.Reads as read-card-reads
 use Rattle.network.proofs.links.linked.Reads as linked-reads
 
--- src/lib.rt:38:9
-card-links-requires : tie.Need-card-links-requires
-card-links-requires c κs = search needs
+-- src/lib.rt:40:9
+read-card-requires : tie.Need-read-card-requires
+read-card-requires c κs = search needs
 
--- src/lib.rt:39:5
+-- src/lib.rt:41:5
 linked-requires : tie.Need-linked-requires
 linked-requires c κs = search needs
 
--- src/lib.rt:34:1
+-- src/lib.rt:35:1
 returns : tie.Need-returns
-returns c = c .linked .ensures ∙ ap (λ (l : Links). linkedIn l (c .before .before .before .args .u) (c .before .before .before .args .v)) (c .before .card-links .ensures)
+unfolding noLinks
+returns c = let a = c .before .before .before .before .args in
+    c .linked .ensures ∙ ap (λ (l : Links). linkedIn l (a .u) (a .v)) (c .before .read-card .ensures .links ∙ links-fresh (readCard (a .card .now)))
 
 pub agreement-linked-spec : {M : Type 1} → statement M
-agreement-linked-spec = tie.close (tie.spec card-links-requires linked-requires returns)
+agreement-linked-spec = tie.close (tie.spec read-card-requires linked-requires returns)
