@@ -16,4 +16,3 @@ linked-past-row links u v e h = List·getD-eq-default (getD links u []) false (o
 pub linked-past-rows : (links : Links) (u v : ℕ) → length links ≡ 8 → 8 ≤ u → linkedIn links u v ≡ false
 unfolding linkedIn
 linked-past-rows links u v e h = rw (List·getD-eq-default links [] {n = u} (omega arith)) refl
-

@@ -8,8 +8,8 @@ use Prim.Native.Nat.{ℕ, zero, suc, _+_, _≤_, _<_}
 use native.Mathlib.Omega.{arith}
 use lib.ListN.{length, getD, set, replicate, getD-replicate, List·getD-eq-default}
 use lib.Seq.{getD-set-same, getD-set-other, set-out}
-use lib.Dec.{eqb, ltb, leb}
-use borrow.Author.Tests.{ltb-true, ltb-false, leb-true, eqb-true, eqb-false}
+use lib.Dec.{eqb, ltb}
+use borrow.Author.Tests.{ltb-true, ltb-false, eqb-true, eqb-false}
 use Rattle.facts.proofs.Bools.{cases, clash, and-left, and-right, not-true, bools}
 use Rattle.refusal.specs.Refused.{Refused}
 use Rattle.network.specs.Links.{Links, noLinks, linkedIn, withLink}
@@ -54,8 +54,8 @@ unfolding headFits
 proper-head n f e =
     let a : ltb n 2 ≡ false = search bools in
     let b : ltb 8 n ≡ false = search bools in
-    let c : leb f 2 ≡ true = search bools in
-    record { least = ltb-false n 2 a; most = ltb-false 8 n b; bound = leb-true f 2 c; from = λ u v q. none-there u v q; to = λ u v q. none-there u v q; other = λ u v q. none-there u v q }
+    let c : ltb 2 f ≡ false = search bools in
+    record { least = ltb-false n 2 a; most = ltb-false 8 n b; bound = ltb-false 2 f c; from = λ u v q. none-there u v q; to = λ u v q. none-there u v q; other = λ u v q. none-there u v q }
 
 proper-link : (n f : ℕ) (links : Links) → Proper n f links → (u v : ℕ) → linkFits n u v ≡ true → Proper n f (withLink links u v)
 unfolding linkFits

@@ -134,8 +134,13 @@ module _ (n f limit : ℕ) (sizes lower upper : List ℕ) where
   pub scan-starts : n ≤ 8 → limit ≡ 2 ^ n → Scan 0
   unfolding firstBad
   scan-starts h e =
-      record { few = h; limit-is = e; inside = omega arith; left = λ links so.
-          orElse-good (firstFrom (limit - 0) 0 (badWithFaults n f links)) ∙ (let z : limit - 0 ≡ 2 ^ n = omega arith in ap (λ (m : ℕ). firstFrom m 0 (badWithFaults n f links)) z) }
+      record {
+        few = h;
+        limit-is = e;
+        inside = omega arith;
+        left = λ links so.
+            orElse-good (firstFrom (limit - 0) 0 (badWithFaults n f links)) ∙ (let z : limit - 0 ≡ 2 ^ n = omega arith in ap (λ (m : ℕ). firstFrom m 0 (badWithFaults n f links)) z);
+      }
 
   pub scan-ends : (i : ℕ) → Scan i → limit ≤ i → (links : Links) → Given links → good ≡ firstBad n f links
   scan-ends i s h links so = left-done limit i (badWithFaults n f links) good (firstBad n f links) (s .left links so) h
@@ -143,8 +148,13 @@ module _ (n f limit : ℕ) (sizes lower upper : List ℕ) where
   module _ (i : ℕ) (s : Scan i) (h : i < limit) (k : ℕ) (e : k ≡ size i) where
     pub scan-past : f < k → Scan (i + 1)
     scan-past q =
-        record { few = s .few; limit-is = s .limit-is; inside = omega arith; left = λ links so.
-            left-past limit i (badWithFaults n f links) good (firstBad n f links) (s .left links so) h (no-faults n f links i (lt-leb (size i) f (omega arith))) }
+        record {
+          few = s .few;
+          limit-is = s .limit-is;
+          inside = omega arith;
+          left = λ links so.
+              left-past limit i (badWithFaults n f links) good (firstBad n f links) (s .left links so) h (no-faults n f links i (lt-leb (size i) f (omega arith)));
+        }
 
     -- no L before the first set apart from F
     too-low : (links : Links) (x : ℕ) → x < next 0 i → weak n f links i x ≡ false
@@ -157,16 +167,30 @@ module _ (n f limit : ℕ) (sizes lower upper : List ℕ) where
         let l = s .limit-is in
         let t = next-small n 0 i (pow-pos n) (omega arith) in
         let a = next-after 0 i (meet-nothing i) in
-        record { few = s .few; limit-is = s .limit-is; i-inside = h; inside = omega arith; some = omega arith; clear = ap (λ (x : ℕ). meet x i) w ∙ next-apart 0 i; small = le-leb (size i) f (omega arith); left = λ links so.
-            left-jump limit 0 j (badWithSides n f links i) (beyond limit i (badWithFaults n f links) good) (firstBad n f links)
-            (left-into limit i (badWithFaults n f links) good (firstBad n f links) (s .left links so) h (badWithSides n f links i) (ap (λ (m : ℕ). firstFrom m 0 (badWithSides n f links i)) (sym (s .limit-is))))
-            (omega arith) (omega arith) (λ x b c. no-sides n f links i x (too-low links x (omega arith))) }
+        record {
+          few = s .few;
+          limit-is = s .limit-is;
+          i-inside = h;
+          inside = omega arith;
+          some = omega arith;
+          clear = ap (λ (x : ℕ). meet x i) w ∙ next-apart 0 i;
+          small = le-leb (size i) f (omega arith);
+          left = λ links so.
+              left-jump limit 0 j (badWithSides n f links i) (beyond limit i (badWithFaults n f links) good) (firstBad n f links)
+              (left-into limit i (badWithFaults n f links) good (firstBad n f links) (s .left links so) h (badWithSides n f links i) (ap (λ (m : ℕ). firstFrom m 0 (badWithSides n f links i)) (sym (s .limit-is))))
+              (omega arith) (omega arith) (λ x b c. no-sides n f links i x (too-low links x (omega arith)));
+        }
 
   pub sides-end : (i j : ℕ) → Sides i j → limit ≤ j → Scan (i + 1)
   sides-end i j s h =
       let a = s .i-inside in
-      record { few = s .few; limit-is = s .limit-is; inside = omega arith; left = λ links so.
-          left-done limit j (badWithSides n f links i) (beyond limit i (badWithFaults n f links) good) (firstBad n f links) (s .left links so) h }
+      record {
+        few = s .few;
+        limit-is = s .limit-is;
+        inside = omega arith;
+        left = λ links so.
+            left-done limit j (badWithSides n f links i) (beyond limit i (badWithFaults n f links) good) (firstBad n f links) (s .left links so) h;
+      }
 
   -- on from L = j, which is passed, to the next set apart from F
   module _ (i j j′ : ℕ) (s : Sides i j) (h : j < limit) (w : j′ ≡ next j i) where
@@ -179,9 +203,18 @@ module _ (n f limit : ℕ) (sizes lower upper : List ℕ) where
         let q = s .i-inside in
         let t = next-small n j i (omega arith) (omega arith) in
         let a = next-after j i (s .clear) in
-        record { few = s .few; limit-is = s .limit-is; i-inside = s .i-inside; inside = omega arith; some = omega arith; clear = ap (λ (x : ℕ). meet x i) w ∙ next-apart j i; small = s .small; left = λ links so.
-            left-jump limit (j + 1) j′ (badWithSides n f links i) (beyond limit i (badWithFaults n f links) good) (firstBad n f links) (p links so) (omega arith) (omega arith)
-            (λ x b c. no-sides n f links i x (jumped links x (omega arith) (omega arith))) }
+        record {
+          few = s .few;
+          limit-is = s .limit-is;
+          i-inside = s .i-inside;
+          inside = omega arith;
+          some = omega arith;
+          clear = ap (λ (x : ℕ). meet x i) w ∙ next-apart j i;
+          small = s .small;
+          left = λ links so.
+              left-jump limit (j + 1) j′ (badWithSides n f links i) (beyond limit i (badWithFaults n f links) good) (firstBad n f links) (p links so) (omega arith) (omega arith)
+              (λ x b c. no-sides n f links i x (jumped links x (omega arith) (omega arith)));
+        }
 
   pub sides-fall : (i j j′ : ℕ) → Sides i j → j < limit → j′ ≡ next j i → limit - j′ < limit - j
   sides-fall i j j′ s h w = let a = next-after j i (s .clear) in omega arith
@@ -209,10 +242,18 @@ module _ (n f limit : ℕ) (sizes lower upper : List ℕ) where
         let k-is : k ≡ next 0 (union i j) = w ∙ ap (next 0) v in
         let a = next-after 0 (union i j) (meet-nothing (union i j)) in
         let m = next-small n 0 (union i j) (pow-pos n) (union-small n i j (omega arith) (omega arith)) in
-        record { sides = s; j-inside = h; inside = omega arith; some = omega arith; clear = ap (λ (x : ℕ). meet x (union i j)) k-is ∙ next-apart 0 (union i j); weakL = λ links so. side-weak links so ∙ q; left = λ links so.
-            left-jump limit 0 k (badAt n f links i j) (beyond limit j (badWithSides n f links i) (beyond limit i (badWithFaults n f links) good)) (firstBad n f links)
-            (left-into limit j (badWithSides n f links i) (beyond limit i (badWithFaults n f links) good) (firstBad n f links) (s .left links so) h (badAt n f links i j) (ap (λ (m : ℕ). firstFrom m 0 (badAt n f links i j)) (sym (s .limit-is))))
-            (omega arith) (omega arith) (λ x b c. too-low-right links x (omega arith) (omega arith)) }
+        record {
+          sides = s;
+          j-inside = h;
+          inside = omega arith;
+          some = omega arith;
+          clear = ap (λ (x : ℕ). meet x (union i j)) k-is ∙ next-apart 0 (union i j);
+          weakL = λ links so. side-weak links so ∙ q;
+          left = λ links so.
+              left-jump limit 0 k (badAt n f links i j) (beyond limit j (badWithSides n f links i) (beyond limit i (badWithFaults n f links) good)) (firstBad n f links)
+              (left-into limit j (badWithSides n f links i) (beyond limit i (badWithFaults n f links) good) (firstBad n f links) (s .left links so) h (badAt n f links i j) (ap (λ (m : ℕ). firstFrom m 0 (badAt n f links i j)) (sym (s .limit-is))))
+              (omega arith) (omega arith) (λ x b c. too-low-right links x (omega arith) (omega arith));
+        }
 
   pub splits-end : (i j k : ℕ) → Splits i j k → limit ≤ k → (j′ : ℕ) → j′ ≡ next j i → Sides i j′
   splits-end i j k s h j′ w =
@@ -238,12 +279,20 @@ module _ (n f limit : ℕ) (sizes lower upper : List ℕ) where
         let k-is : k′ ≡ next k (union i j) = w ∙ ap (next k) v in
         let a = next-after k (union i j) (s .clear) in
         let m = next-small n k (union i j) k-small (union-small n i j (omega arith) (omega arith)) in
-        record { sides = s .sides; j-inside = s .j-inside; inside = omega arith; some = omega arith; clear = ap (λ (x : ℕ). meet x (union i j)) k-is ∙ next-apart k (union i j); weakL = s .weakL; left = λ links so.
-            left-jump limit (k + 1) k′ (badAt n f links i j) (beyond limit j (badWithSides n f links i) (beyond limit i (badWithFaults n f links) good)) (firstBad n f links)
-            (left-past limit k (badAt n f links i j) (beyond limit j (badWithSides n f links i) (beyond limit i (badWithFaults n f links) good)) (firstBad n f links) (s .left links so) h
-            (none-right n f links i j k (right-weak links so ∙ q)))
-            (omega arith) (omega arith)
-            (λ x c d. none-busy n f links i j x (omega arith) (skipped (union i j) k x (s .clear) (omega arith) (omega arith))) }
+        record {
+          sides = s .sides;
+          j-inside = s .j-inside;
+          inside = omega arith;
+          some = omega arith;
+          clear = ap (λ (x : ℕ). meet x (union i j)) k-is ∙ next-apart k (union i j);
+          weakL = s .weakL;
+          left = λ links so.
+              left-jump limit (k + 1) k′ (badAt n f links i j) (beyond limit j (badWithSides n f links i) (beyond limit i (badWithFaults n f links) good)) (firstBad n f links)
+              (left-past limit k (badAt n f links i j) (beyond limit j (badWithSides n f links i) (beyond limit i (badWithFaults n f links) good)) (firstBad n f links) (s .left links so) h
+              (none-right n f links i j k (right-weak links so ∙ q)))
+              (omega arith) (omega arith)
+              (λ x c d. none-busy n f links i j x (omega arith) (skipped (union i j) k x (s .clear) (omega arith) (omega arith)));
+        }
 
     -- the first bad split
     pub splits-hit : b ≡ true → (servers sound sides c : ℕ) → servers ≡ full (min n 8) → sound ≡ minus servers i → sides ≡ union j k → c ≡ minus sound sides
@@ -254,7 +303,7 @@ module _ (n f limit : ℕ) (sizes lower upper : List ℕ) where
         let v : rest n i j k ≡ c = ap (λ (x : ℕ). minus (minus (full x) i) (union j k)) (sym w) ∙ cc in
         let lr : meet j k ≡ 0 = meet-comm j k ∙ apart-right n k i j k-small (s .clear) in
         let here : badAt n f links i j k ≡ bad i j (rest n i j k) k =
-            bad-here n f links i j k (s .sides .small) (s .weakL links so) (right-weak links so ∙ q) (eq-eqb (meet j k) 0 lr) in
+        bad-here n f links i j k (s .sides .small) (s .weakL links so) (right-weak links so ∙ q) (eq-eqb (meet j k) 0 lr) in
         let all = left-turn limit k (badAt n f links i j) (beyond limit j (badWithSides n f links i) (beyond limit i (badWithFaults n f links) good)) (firstBad n f links) (s .left links so) h in
         ap (λ (x : ℕ). bad i j x k) (sym v)
         ∙ ap (λ (x : Split). orElse x (beyond limit k (badAt n f links i j) (beyond limit j (badWithSides n f links i) (beyond limit i (badWithFaults n f links) good)))) (sym here)

@@ -5,7 +5,7 @@ use mathlib.Core.Bool.{Bool, true, false, cond, not, _&&_}
 use mathlib.Core.List.{List}
 use Prim.Native.Nat.{ℕ, zero, suc, _+_}
 use lib.ListN.{length, getD}
-use lib.Dec.{eqb, ltb, leb}
+use lib.Dec.{eqb, ltb}
 use Rattle.refusal.specs.Refused.{Refused, card}
 use Rattle.network.specs.Links.{Links, noLinks, linkedIn, withLink}
 
@@ -23,7 +23,7 @@ turnedBack number place = done (refused (card number place))
 
 -- n is 2 to 8, f is 0 to 2
 unfoldable pub headFits : ℕ → ℕ → Bool
-headFits n f = not (ltb n 2) && (not (ltb 8 n) && leb f 2)
+headFits n f = not (ltb n 2) && (not (ltb 8 n) && not (ltb 2 f))
 
 -- u and v are two different servers
 unfoldable pub linkFits : ℕ → ℕ → ℕ → Bool

@@ -28,7 +28,10 @@ fn head_fits(n: u8, f: u8) -> bool
     if 8 < n {
         return false;
     }
-    f <= 2
+    if 2 < f {
+        return false;
+    }
+    true
 }
 
 // u and v are two different servers of n.

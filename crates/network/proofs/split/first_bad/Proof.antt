@@ -93,9 +93,10 @@ next-apart-requires c κs = search needs
 
 -- src/split.rt:121:13
 loop-holds : tie.Need-loop-holds Inv-loop2 μ-loop2 Inv-loop μ-loop Inv-scan μ-scan
-loop-holds c = let l = c .before .before .before .scan in
-    (l .inv .0,
-    sides-start _ _ _ _ _ _ _ (l .inv .1) (c .before .before .scan-test .taken) _ (c .before .before .before .before .before .sizes .ensures .entry (l .i) (search needs)) (c .before .if1 .taken) _ (c .next-apart .ensures))
+loop-holds c = let l = c .before .before .before .scan in (
+  l .inv .0,
+  sides-start _ _ _ _ _ _ _ (l .inv .1) (c .before .before .scan-test .taken) _ (c .before .before .before .before .before .sizes .ensures .entry (l .i) (search needs)) (c .before .if1 .taken) _ (c .next-apart .ensures),
+)
 
 -- src/split.rt:122:28
 cast-left : tie.Need-cast-left Inv-loop2 μ-loop2 Inv-loop μ-loop Inv-scan μ-scan
@@ -116,9 +117,10 @@ next-apart-requires-2 c κs = search needs
 
 -- src/split.rt:126:21
 loop2-holds : tie.Need-loop2-holds Inv-loop2 μ-loop2 Inv-loop μ-loop Inv-scan μ-scan
-loop2-holds c = let l = c .before .before .before .before .before .before .before .before .loop in
-    (l .inv .0,
-    splits-start _ _ _ _ _ _ _ _ (l .inv .1) (c .before .before .before .before .before .before .before .loop-test .taken) _ (c .before .before .before .is-weak .ensures) (c .before .before .if2 .taken) _ _ (c .before .union .ensures) (c .next-apart2 .ensures))
+loop2-holds c = let l = c .before .before .before .before .before .before .before .before .loop in (
+  l .inv .0,
+  splits-start _ _ _ _ _ _ _ _ (l .inv .1) (c .before .before .before .before .before .before .before .loop-test .taken) _ (c .before .before .before .is-weak .ensures) (c .before .before .if2 .taken) _ _ (c .before .union .ensures) (c .next-apart2 .ensures),
+)
 
 -- src/split.rt:127:37
 cast-right : tie.Need-cast-right Inv-loop2 μ-loop2 Inv-loop μ-loop Inv-scan μ-scan
@@ -151,9 +153,10 @@ loop2-less c = splits-fall _ _ _ _ _ _ _ _ _ _ _ (c .before .before .before .bef
 
 -- src/split.rt:126:21
 loop2-again : tie.Need-loop2-again Inv-loop2 μ-loop2 Inv-loop μ-loop Inv-scan μ-scan
-loop2-again c = let l = c .before .before .before .before .before .before .before .loop2 in
-    (l .inv .0,
-    splits-past _ _ _ _ _ _ _ _ _ (l .inv .1) (c .before .before .before .before .before .before .loop2-test .taken) _ (c .before .before .is-weak2 .ensures) (c .before .if3 .left) _ _ (c .before .before .before .before .before .before .before .before .before .union .ensures) (c .next-apart3 .ensures))
+loop2-again c = let l = c .before .before .before .before .before .before .before .loop2 in (
+  l .inv .0,
+  splits-past _ _ _ _ _ _ _ _ _ (l .inv .1) (c .before .before .before .before .before .before .loop2-test .taken) _ (c .before .before .is-weak2 .ensures) (c .before .if3 .left) _ _ (c .before .before .before .before .before .before .before .before .before .union .ensures) (c .next-apart3 .ensures),
+)
 
 -- src/split.rt:143:17
 next-apart-requires-4 :
