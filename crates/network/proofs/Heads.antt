@@ -20,9 +20,6 @@ pub refused-of : (a : Network) (r : Refused) → headOf a ≡ turned r → a ≡
 refused-of (network m g links) r e = cc
 refused-of (refused x) r e = let p : x ≡ r = cc in cc
 
-pub head-proper : (s : List ℕ) (n f : ℕ) → headOf (readCard s) ≡ head n f → Proper n f (linksOf (readCard s))
-head-proper s n f e = card-proper s n f (linksOf (readCard s)) (network-of (readCard s) n f e)
-
 pub refused-split : (s : List ℕ) (r : Refused) → headOf (readCard s) ≡ turned r → unread r ≡ splitTest s
 unfolding splitTest
 refused-split s r e = ap splitOf (sym (refused-of (readCard s) r e))
@@ -31,6 +28,10 @@ refused-split s r e = ap splitOf (sym (refused-of (readCard s) r e))
 links-after : (a : Network) (n f : ℕ) (lent : Links) → headOf a ≡ head n f → linksAfter a lent ≡ linksOf a
 links-after (network m g links) n f lent e = refl
 links-after (refused r) n f lent e = cc
+
+pub head-proper : (s : List ℕ) (n f : ℕ) (lent links : Links) → headOf (readCard s) ≡ head n f → links ≡ linksAfter (readCard s) lent → Proper n f links
+head-proper s n f lent links e q =
+    rw (q ∙ links-after (readCard s) n f lent e) (card-proper s n f (linksOf (readCard s)) (network-of (readCard s) n f e))
 
 pub network-split : (s : List ℕ) (n f : ℕ) (lent links : Links) → headOf (readCard s) ≡ head n f → links ≡ linksAfter (readCard s) lent → firstBad n f links ≡ splitTest s
 unfolding splitTest

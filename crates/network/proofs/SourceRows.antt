@@ -1,8 +1,8 @@
 -- The rows of sources and the tables of halves, as the code makes and reads them: the loops on plain numbers, each by membership, for every
 -- server at once.
 --     someBelow-..     a test on servers: none, those beyond n, two halves
---     mark-..          the loop of `with_source`: the rows below v have gained server u
---     rows-..          the loop of `source_rows`: the servers below u are in the rows
+--     to-..            the loop of `sources`: the servers below u with a link to v
+--     rows-..          the loop of `source_rows`
 --     half-..          the loop of `half_table`; joined-.. what `into_half` computes
 --     halves-into      the two tables give the servers of V with a link into a set
 -- Assumes nothing.
@@ -10,19 +10,19 @@ use mathlib.Core.Path.{_≡_, refl, sym, ap, ap₂, _∙_}
 use mathlib.Core.Bool.{Bool, true, false, cond, not, _&&_, _||_, or-false, or-assoc}
 use mathlib.Core.List.{List, [], _∷_}
 use Prim.Native.Nat.{ℕ, zero, suc, _+_, _-_, _*_, _/_, _%_, _^_, _≤_, _<_}
-use native.Mathlib.Numerals.{add-one}
 use native.Mathlib.Omega.{arith}
-use lib.ListN.{length, getD, set, getD-replicate, length-set}
+use lib.ListN.{length, getD, set, length-set}
 use lib.Seq.{getD-set-same, getD-set-other}
 use lib.Dec.{eqb, ltb}
 use lib.Pow.{pow-mono}
 use borrow.Author.Tests.{lt-ltb, le-ltb, eqb-true, eqb-false, ltb-true, ltb-false}
 use Rattle.facts.proofs.Bools.{cases, same}
 use Rattle.sets.specs.Sets.{Set, has, union, single}
-use Rattle.sets.proofs.Members.{has-union, has-single, has-empty, has-beyond, has-mod, has-div}
+use Rattle.sets.proofs.Members.{has-union, has-single, single-is, has-empty, has-beyond, has-mod, has-div}
 use Rattle.network.specs.Links.{Links, linkedIn}
 use Rattle.network.specs.Split.{someBelow}
-use Rattle.network.specs.Weak.{Sources, Joined, HalfTable}
+use Rattle.network.specs.Weak.{Sources, SourcesOf, Joined, HalfTable}
+use Rattle.network.specs.Proper.{Proper}
 use Rattle.network.proofs.Neighbours.{someBelow-same}
 
 pub someBelow-none : (n : ℕ) (p : Set) → ((i : ℕ) → i < n → p i ≡ false) → someBelow n p ≡ false
@@ -53,90 +53,70 @@ ltb-next : (w u : ℕ) → (u ≡ w → ⊥) → ltb w (u + 1) ≡ ltb w u
 ltb-next w u other =
     same (ltb w (u + 1)) (ltb w u) (λ e. lt-ltb w u (let h = ltb-true w (u + 1) e in omega arith)) (λ e. lt-ltb w (u + 1) (let h = ltb-true w u e in omega arith))
 
--- with_source
+-- sources
 
--- the rows below v have gained what `one` holds where `row` has a mark; those from v on are as they were
-pub record Marked (rows₀ : List ℕ) (row : List Bool) (one v : ℕ) (rows : List ℕ) : Type 0 where
-  pub inside : v ≤ 8
-  pub long : length rows ≡ 8
-  pub gained : (x w : ℕ) → x < v → has (getD rows x 0) w ≡ (has (getD rows₀ x 0) w || (getD row x false && has one w))
-  pub kept : (x : ℕ) → v ≤ x → getD rows x 0 ≡ getD rows₀ x 0
+pub to-starts : (links : Links) (v : ℕ) → SourcesOf links v 0 0
+to-starts links v w = let e = le-ltb w 0 (omega arith) in let z = has-empty w in cc
 
-pub mark-starts : (rows : List ℕ) (row : List Bool) (one : ℕ) → length rows ≡ 8 → Marked rows row one 0 rows
-mark-starts rows row one l = record { inside = omega arith; long = l; gained = λ x w h. absurd (omega arith); kept = λ x h. refl }
-
-module _ (rows₀ : List ℕ) (row : List Bool) (one v : ℕ) (rows : List ℕ) (m : Marked rows₀ row one v rows) (k : v < 8) where
-  pub mark-joins : getD row v false ≡ true → (more : ℕ) → more ≡ union (getD rows v 0) one → Marked rows₀ row one (v + 1) (set rows v more)
-  mark-joins t more e =
-      record {
-        inside = omega arith;
-        long = simp length-set (m .long);
-        gained = λ x w h. cases (eqb x v) (λ q. here x w (eqb-true x v q)) (λ q. below x w h (eqb-false x v q));
-        kept = λ x h. getD-set-other rows v x more 0 (λ q. let z : x ≡ v = q in absurd (omega arith)) ∙ m .kept x (omega arith);
-      }
+module _ (links : Links) (v u row : ℕ) (so : SourcesOf links v u row) where
+  pub to-joins : u < 8 → getD (getD links u []) v false ≡ true → (row′ : ℕ) → row′ ≡ union row (1 * 2 ^ u % 2 ^ 8) → SourcesOf links v (u + 1) row′
+  unfolding linkedIn
+  to-joins k t row′ e w =
+      let h = so w in
+      let j : has row′ w ≡ (has row w || (ltb u 8 && eqb u w)) = ap (λ (x : ℕ). has x w) (e ∙ ap (union row) (single-is u k)) ∙ has-union row (single u) w ∙ ap (λ (x : Bool). has row w || x) (has-single u w) in
+      let l = lt-ltb u 8 k in
+      cases (eqb u w)
+      (λ x. here x (eqb-true u w x) h j l)
+      (λ x. let n = ltb-next w u (eqb-false u w x) in cases (has row w) (λ y. cc) (λ y. cc))
     where
-      here : (x w : ℕ) → x ≡ v → has (getD (set rows v more) x 0) w ≡ (has (getD rows₀ x 0) w || (getD row x false && has one w))
-      here x w q =
-          rw q
-          (let l = m .long in
-          let g = getD-set-same rows v more 0 (omega arith) in
-          let o = m .kept v (omega arith) in
-          let j = has-union (getD rows v 0) one w in
-          cc)
+      here : eqb u w ≡ true → u ≡ w → has row w ≡ (ltb w u && getD (getD links w []) v false) → has row′ w ≡ (has row w || (ltb u 8 && eqb u w)) → ltb u 8 ≡ true
+          → has row′ w ≡ (ltb w (u + 1) && getD (getD links w []) v false)
+      here x p h j l =
+          let n : ltb w (u + 1) ≡ true = lt-ltb w (u + 1) (omega arith) in
+          let m : getD (getD links w []) v false ≡ true = ap (λ (y : ℕ). getD (getD links y []) v false) (sym p) ∙ t in
+          cases (has row w) (λ y. cc) (λ y. cc)
 
-      below : (x w : ℕ) → x < v + 1 → (x ≡ v → ⊥) → has (getD (set rows v more) x 0) w ≡ (has (getD rows₀ x 0) w || (getD row x false && has one w))
-      below x w h o = let g = getD-set-other rows v x more 0 o in let r = m .gained x w (omega arith) in cc
-
-  pub mark-passes : getD row v false ≡ false → Marked rows₀ row one (v + 1) rows
-  mark-passes t =
-      record {
-        inside = omega arith;
-        long = m .long;
-        gained = λ x w h. cases (eqb x v) (λ q. here x w (eqb-true x v q)) (λ q. let o = eqb-false x v q in m .gained x w (omega arith));
-        kept = λ x h. m .kept x (omega arith);
-      }
-    where
-      here : (x w : ℕ) → x ≡ v → has (getD rows x 0) w ≡ (has (getD rows₀ x 0) w || (getD row x false && has one w))
-      here x w q = rw q (let o = m .kept v (omega arith) in cases (has (getD rows₀ v 0) w) (λ y. cc) (λ y. cc))
-
-pub mark-ends : (rows₀ : List ℕ) (row : List Bool) (one : ℕ) (rows : List ℕ) → Marked rows₀ row one 8 rows
-    → (v w : ℕ) → v < 8 → has (getD rows v 0) w ≡ (has (getD rows₀ v 0) w || (getD row v false && has one w))
-mark-ends rows₀ row one rows m = m .gained
+  pub to-passes : getD (getD links u []) v false ≡ false → SourcesOf links v (u + 1) row
+  unfolding linkedIn
+  to-passes t w =
+      let h = so w in
+      cases (eqb u w)
+      (λ x. let p = eqb-true u w x in
+      let m : getD (getD links w []) v false ≡ false = ap (λ (y : ℕ). getD (getD links y []) v false) (sym p) ∙ t in
+      cases (ltb w u) (λ y. cases (ltb w (u + 1)) (λ z. cc) (λ z. cc)) (λ y. cases (ltb w (u + 1)) (λ z. cc) (λ z. cc)))
+      (λ x. let n = ltb-next w u (eqb-false u w x) in cc)
 
 -- source_rows
 
--- the rows hold the servers below u that have the links
-abbrev pub Rows : Links → ℕ → List ℕ → Type 0
-Rows links u rows = (v w : ℕ) → v < 8 → has (getD rows v 0) w ≡ (ltb w u && linkedIn links w v)
+pub record Rows (links : Links) (v : ℕ) (rows : List ℕ) : Type 0 where
+  pub inside : v ≤ 8
+  pub long : length rows ≡ 8
+  pub made : (x : ℕ) → x < v → SourcesOf links x 8 (getD rows x 0)
 
-pub rows-start : (links : Links) → Rows links 0 (0 ∷ 0 ∷ 0 ∷ 0 ∷ 0 ∷ 0 ∷ 0 ∷ 0 ∷ [])
-rows-start links v w h =
-    let z = getD-replicate {A = ℕ} 8 v 0 0 h in
-    let e = has-empty w in
-    let t = le-ltb w 0 (omega arith) in
-    ap (λ (x : ℕ). has x w) z ∙ cc
+pub rows-start : (links : Links) (rows : List ℕ) → length rows ≡ 8 → Rows links 0 rows
+rows-start links rows l = record { inside = omega arith; long = l; made = λ x h. absurd (omega arith) }
 
-pub rows-turn : (links : Links) (u : ℕ) (rows more : List ℕ) → Rows links u rows → u < 8
-    → ((v w : ℕ) → v < 8 → has (getD more v 0) w ≡ (has (getD rows v 0) w || (getD (getD links u []) v false && has (single u) w)))
-    → Rows links (u + 1) more
-unfolding linkedIn
-rows-turn links u rows more r k g v w h =
-    let a = r v w h in
-    let b = g v w h in
-    let o = has-single u w in
-    let l = lt-ltb u 8 k in
-    cases (eqb u w)
-    (λ x. here x (eqb-true u w x) a b o l)
-    (λ x. let n = ltb-next w u (eqb-false u w x) in cases (getD (getD links u []) v false) (λ y. cases (has (getD rows v 0) w) (λ z. cc) (λ z. cc)) (λ y. cases (has (getD rows v 0) w) (λ z. cc) (λ z. cc)))
+pub rows-turn : (links : Links) (v : ℕ) (rows : List ℕ) → Rows links v rows → v < 8 → (row : ℕ) → SourcesOf links v 8 row → Rows links (v + 1) (set rows v row)
+rows-turn links v rows r k row so =
+    record {
+      inside = omega arith;
+      long = simp length-set (r .long);
+      made = λ x h. cases (eqb x v) (λ q. here x (eqb-true x v q)) (λ q. below x h (eqb-false x v q));
+    }
   where
-    here : eqb u w ≡ true → u ≡ w → has (getD rows v 0) w ≡ (ltb w u && getD (getD links w []) v false)
-        → has (getD more v 0) w ≡ (has (getD rows v 0) w || (getD (getD links u []) v false && has (single u) w)) → has (single u) w ≡ (ltb u 8 && eqb u w) → ltb u 8 ≡ true
-        → has (getD more v 0) w ≡ (ltb w (u + 1) && getD (getD links w []) v false)
-    here x p a b o l =
-        let n : ltb w (u + 1) ≡ true = lt-ltb w (u + 1) (omega arith) in
-        let m : ltb w u ≡ false = le-ltb w u (omega arith) in
-        let q : getD (getD links u []) v false ≡ getD (getD links w []) v false = ap (λ (y : ℕ). getD (getD links y []) v false) p in
-        cases (getD (getD links w []) v false) (λ y. cc) (λ y. cc)
+    here : (x : ℕ) → x ≡ v → SourcesOf links x 8 (getD (set rows v row) x 0)
+    here x q = rw q (let l = r .long in let g = getD-set-same rows v row 0 (omega arith) in λ u. ap (λ (z : ℕ). has z u) g ∙ so u)
+
+    below : (x : ℕ) → x < v + 1 → (x ≡ v → ⊥) → SourcesOf links x 8 (getD (set rows v row) x 0)
+    below x h o u = let g = getD-set-other rows v x row 0 o in ap (λ (z : ℕ). has z u) g ∙ r .made x (omega arith) u
+
+-- a proper network has links from servers of V alone
+pub sources-proper : (n f : ℕ) (links : Links) (rows : List ℕ) → Proper n f links → ((v : ℕ) → v < 8 → SourcesOf links v 8 (getD rows v 0)) → Sources n links rows
+sources-proper n f links rows p r v h u =
+    r v h u
+    ∙ cases (linkedIn links u v)
+    (λ e. let a = p .from u v e in let m = p .most in let x = lt-ltb u 8 (omega arith) in let y = lt-ltb u n a in cc)
+    (λ e. cases (ltb u 8) (λ x. cases (ltb u n) (λ y. cc) (λ y. cc)) (λ x. cases (ltb u n) (λ y. cc) (λ y. cc)))
 
 -- into_half
 
@@ -197,10 +177,10 @@ module _ (n : ℕ) (links : Links) (rows : List ℕ) (few : n ≤ 8) (so : Sourc
     where
       known : ltb u n ≡ true → someBelow n (λ (v : ℕ). has s v && has (getD rows v 0) u) ≡ (ltb u n && someBelow n (λ (v : ℕ). has s v && linkedIn links u v))
       known q =
-          rw q (someBelow-same n (λ (v : ℕ). has s v && has (getD rows v 0) u) (λ (v : ℕ). has s v && linkedIn links u v) (λ i k. let m = so i u (omega arith) in cc))
+          rw q (someBelow-same n (λ (v : ℕ). has s v && has (getD rows v 0) u) (λ (v : ℕ). has s v && linkedIn links u v) (λ i k. let m = so i (omega arith) u in cc))
 
       none : ltb u n ≡ false → someBelow n (λ (v : ℕ). has s v && has (getD rows v 0) u) ≡ false
-      none q = someBelow-none n (λ (v : ℕ). has s v && has (getD rows v 0) u) (λ i k. let m = so i u (omega arith) in cases (has s i) (λ x. cc) (λ x. cc))
+      none q = someBelow-none n (λ (v : ℕ). has s v && has (getD rows v 0) u) (λ i k. let m = so i (omega arith) u in cases (has s i) (λ x. cc) (λ x. cc))
 
   module _ (lower upper : List ℕ) (low : HalfTable rows 0 lower) (high : HalfTable rows 4 upper) where
     lower-part : has (getD lower (s % 16) 0) u ≡ someBelow 4 (λ (i : ℕ). has s i && has (getD rows i 0) u)

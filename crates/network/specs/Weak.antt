@@ -20,8 +20,12 @@ outside n links F s = count n (λ (u : ℕ). not (has F u) && incoming n links s
 unfoldable pub weak : ℕ → ℕ → Links → ℕ → ℕ → Bool
 weak n f links F s = not (eqb s 0) && (eqb (meet F s) 0 && leb (outside n links F s) f)
 
+-- row holds the servers below m with a link to v
+abbrev pub SourcesOf : Links → ℕ → ℕ → ℕ → Type 0
+SourcesOf links v m row = (u : ℕ) → has row u ≡ (ltb u m && linkedIn links u v)
+
 abbrev pub Sources : ℕ → Links → List ℕ → Type 0
-Sources n links rows = (v u : ℕ) → v < 8 → has (getD rows v 0) u ≡ (ltb u n && linkedIn links u v)
+Sources n links rows = (v : ℕ) → v < 8 → SourcesOf links v n (getD rows v 0)
 
 -- the servers in the rows of the members of x, which are counted from `first` on
 abbrev pub Joined : List ℕ → ℕ → ℕ → ℕ → Type 0

@@ -3,14 +3,15 @@ use crate::card;
 use crate::card::Reading;
 use refusal::Refusal;
 ghost use mathlib.Core.Path.{_≡_};
-ghost use mathlib.Core.Bool.{cond, _&&_, _||_, false};
+ghost use mathlib.Core.Bool.{cond};
 ghost use Prim.Native.Nat.{ℕ, _≤_, _<_, _^_};
 ghost use lib.Dec.{leb};
 ghost use lib.ListN.{getD};
-ghost use Rattle.sets.specs.Sets.{has, single};
+ghost use Rattle.sets.specs.Sets.{has};
 ghost use Rattle.network.specs.Links.{Links};
 ghost use Rattle.network.specs.Split.{firstBad, splitTest};
-ghost use Rattle.network.specs.Weak.{outside, Sources, Joined, HalfTable, Tables};
+ghost use Rattle.network.specs.Weak.{outside, SourcesOf, Joined, HalfTable, Tables};
+ghost use Rattle.network.specs.Proper.{Proper};
 ghost use Rattle.network.specs.Answers.{splitAnswerOf};
 
 pub enum SplitAnswer {
@@ -22,30 +23,28 @@ pub enum SplitAnswer {
     Refused(Refusal),
 }
 
-// The rows with server u in each row v that the links of u, `row`, have a mark at.
-fn with_source(mut rows: [u8; 8], row: [bool; 8], u: u8) -> [u8; 8]
-    ensures { λ r. ⌜ ((v w : ℕ) → v < 8 → has (getD r v 0) w ≡ (has (getD rows v 0) w || (getD row v false && has (single u) w))) ⌝ }
+// The servers with a link to v.
+fn sources(links: &[[bool; 8]; 8], v: usize) -> u8
+    requires { ⌜ v < 8 ⌝ }
+    ensures { λ r. ⌜ SourcesOf (now (links .entry)) v 8 r ⌝ }
 {
-    let one = sets::single(u);
-    for v in 0..8usize {
-        if row[v] {
-            rows[v] = sets::union(rows[v], one);
+    let mut row: u8 = 0;
+    for u in 0..8usize {
+        if links[u][v] {
+            row = sets::union(row, 1u8 << u);
         }
     }
-    rows
+    row
 }
 
-// For each server the servers below n with a link to it.
-fn source_rows(n: u8, links: [[bool; 8]; 8]) -> [u8; 8]
-    requires { ⌜ n ≤ 8 ⌝ }
-    ensures { λ r. ⌜ Sources n links r ⌝ }
+// The sources of each server.
+fn source_rows(links: [[bool; 8]; 8]) -> [u8; 8]
+    ensures { λ r. ⌜ ((v : ℕ) → v < 8 → SourcesOf links v 8 (getD r v 0)) ⌝ }
 {
     let mut rows = [0u8; 8];
-    for u in 0..n {
-        let at = u as usize;
-        let row = links[at];
-        let more = with_source(rows, row, u);
-        rows = more;
+    for v in 0..8usize {
+        let row = sources(&links, v);
+        rows[v] = row;
     }
     rows
 }
@@ -103,10 +102,10 @@ fn is_weak(sizes: &[u8; 256], lower: &[u8; 16], upper: &[u8; 16], f: u8, fault: 
 // The first bad split in the order of F, then L, then R. L goes over the sets that keep clear of F,
 // R over those that keep clear of F and L; the scan over R is entered only for a weak L.
 fn first_bad(n: u8, f: u8, links: [[bool; 8]; 8]) -> SplitAnswer
-    requires { ⌜ n ≤ 8 ⌝ }
+    requires { ⌜ Proper n f links ⌝ }
     ensures { λ r. ⌜ splitAnswerOf r ≡ firstBad n f links ⌝ }
 {
-    let rows = source_rows(n, links);
+    let rows = source_rows(links);
     let lower = half_table(rows, 0);
     let upper = half_table(rows, 4);
     let sizes = sets::sizes();

@@ -7,6 +7,7 @@ use borrow.Author.Needs.{needs}
 use Rattle.network.specs.declared.split.SplitAnswer.{SplitAnswer}
 use Rattle.network.specs.Answers.{splitAnswerOf}
 use Rattle.network.specs.Weak.{Tables}
+use Rattle.network.proofs.SourceRows.{sources-proper}
 use Rattle.network.proofs.Scans.{Scan, Sides, Splits, limit-of, scan-starts, scan-ends, scan-past, sides-start, sides-end, sides-past, splits-start, splits-end, splits-past, splits-hit, sides-fall, splits-fall}
 use Rattle.network.proofs.split.first_bad.Statement.{statement}
 use Rattle.network.proofs.split.first_bad.Tie as tie
@@ -72,7 +73,7 @@ add-limit c = search needs
 
 -- src/split.rt:116:5
 scan-holds : tie.Need-scan-holds Inv-loop2 μ-loop2 Inv-loop μ-loop Inv-scan μ-scan
-scan-holds c = (refl, scan-starts _ _ _ _ _ _ (c .before .before .before .before .before .pre) (limit-of _ _ (c .before .before .before .before .before .pre) (c .full .ensures)))
+scan-holds c = (refl, scan-starts _ _ _ _ _ _ (c .before .before .before .before .before .pre .most) (limit-of _ _ (c .before .before .before .before .before .pre .most) (c .full .ensures)))
 
 -- src/split.rt:117:21
 cast-fault : tie.Need-cast-fault Inv-loop2 μ-loop2 Inv-loop μ-loop Inv-scan μ-scan
@@ -191,17 +192,30 @@ scan-again c = let l = c .before .before .scan in
     (λ w. (w .1 ∙ l .inv .0, scan-past _ _ _ _ _ _ _ (l .inv .1) (c .before .scan-test .taken) _ (c .before .before .before .before .sizes .ensures .entry (l .i) (search needs)) (w .0 .left)))
     (c .if1 .came)
 
+-- with the tables made, they are those of the links
+tables : (c : tie.After-full Inv-loop2 μ-loop2 Inv-loop μ-loop Inv-scan μ-scan)
+    → Tables (c .before .before .before .before .before .args .n) (c .before .before .before .before .before .args .links) (c .before .sizes .result) (c .before .before .before .half-table .result) (c .before .before .half-table2 .result)
+tables c =
+    let r = c .before .before .before .before .source-rows in
+    record {
+      rows = r .result;
+      sources = sources-proper _ _ _ (r .result) (c .before .before .before .before .before .pre) (r .ensures);
+      sized = c .before .sizes .ensures;
+      low = c .before .before .before .half-table .ensures;
+      high = c .before .before .half-table2 .ensures;
+    }
+
 -- src/split.rt:105:1
 returns : tie.Need-returns Inv-loop2 μ-loop2 Inv-loop μ-loop Inv-scan μ-scan
 returns c = ap splitAnswerOf (c .before .scan .inv .0)
     ∙ scan-ends _ _ _ _ _ _ _ (c .before .scan .inv .1) (c .scan-test .left) _
-    (record { rows = c .before .before .before .before .before .before .source-rows .result; sources = c .before .before .before .before .before .before .source-rows .ensures; sized = c .before .before .before .sizes .ensures; low = c .before .before .before .before .before .half-table .ensures; high = c .before .before .before .before .half-table2 .ensures })
+    (tables (c .before .before))
 
 -- src/split.rt:105:1
 returns-2 : tie.Need-returns-2 Inv-loop2 μ-loop2 Inv-loop μ-loop Inv-scan μ-scan
 returns-2 c = splits-hit _ _ _ _ _ _ _ _ _ (c .before .before .before .before .before .before .before .before .before .loop2 .inv .1) (c .before .before .before .before .before .before .before .before .loop2-test .taken) _ (c .before .before .before .before .is-weak2 .ensures) (c .before .before .before .if3 .taken)
     _ _ _ _ (c .before .before .before .before .before .before .before .before .before .before .before .before .before .before .before .before .before .before .before .before .before .before .before .full .ensures) (c .before .before .minus .ensures) (c .before .union2 .ensures) (c .minus2 .ensures) _
-    (record { rows = c .before .before .before .before .before .before .before .before .before .before .before .before .before .before .before .before .before .before .before .before .before .before .before .before .before .before .before .source-rows .result; sources = c .before .before .before .before .before .before .before .before .before .before .before .before .before .before .before .before .before .before .before .before .before .before .before .before .before .before .before .source-rows .ensures; sized = c .before .before .before .before .before .before .before .before .before .before .before .before .before .before .before .before .before .before .before .before .before .before .before .before .sizes .ensures; low = c .before .before .before .before .before .before .before .before .before .before .before .before .before .before .before .before .before .before .before .before .before .before .before .before .before .before .half-table .ensures; high = c .before .before .before .before .before .before .before .before .before .before .before .before .before .before .before .before .before .before .before .before .before .before .before .before .before .half-table2 .ensures })
+    (tables (c .before .before .before .before .before .before .before .before .before .before .before .before .before .before .before .before .before .before .before .before .before .before .before))
 
 pub first-bad-spec : {M : Type 1} → statement M
 first-bad-spec =

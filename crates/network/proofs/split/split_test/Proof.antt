@@ -27,7 +27,7 @@ enum-known-reading-2 c = search needs
 
 -- src/split.rt:158:38
 first-bad-requires : tie.Need-first-bad-requires
-first-bad-requires c κs = head-proper _ _ _ (sym (c .before .before .before .read-card .ensures .reading) ∙ ap readingOf (c .before .reading2 .given .1)) .most
+first-bad-requires c κs = head-proper _ _ _ _ _ (sym (c .before .before .before .read-card .ensures .reading) ∙ ap readingOf (c .before .reading2 .given .1)) (c .before .before .before .read-card .ensures .links)
 
 -- src/split.rt:151:1
 returns : tie.Need-returns
