@@ -1,0 +1,1 @@
+// The route plan: order of blocks, route check, block check, plan check.
