@@ -5,7 +5,7 @@ use mathlib.Core.Bool.{Bool, true, false, cond, not, _&&_}
 use mathlib.Core.List.{List, [], _∷_}
 use Prim.Native.Nat.{ℕ, zero, suc}
 use lib.Dec.{eqb, ltb, leb}
-use lib.ListN.{length}
+use lib.ListN.{length, take}
 use Rattle.sets.specs.Sets.{has, union, single}
 use Rattle.network.specs.Links.{Links, linkedIn}
 
@@ -43,3 +43,8 @@ isPath n links F sources receiver (b ∷ c ∷ bs) =
 
 unfoldable pub isRoute : ℕ → Links → ℕ → ℕ → ℕ → List ℕ → Bool
 isRoute n links F sources receiver bytes = filled bytes && isPath n links F sources receiver (path bytes)
+
+-- what the route check hands back of the bytes that start with an operand: the servers, or nothing where they are no route
+unfoldable pub checkedRoute : ℕ → Links → ℕ → ℕ → ℕ → List ℕ → List ℕ
+checkedRoute n links F sources receiver s =
+    cond (leb 8 (length s) && isRoute n links F sources receiver (take 8 s)) (path (take 8 s)) []

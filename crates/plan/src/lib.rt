@@ -1,1 +1,2 @@
 // The route plan: order of blocks, route check, block check, plan check.
+pub mod route;
