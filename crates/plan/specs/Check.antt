@@ -10,7 +10,7 @@ use Rattle.sets.specs.Sets.{has, union, meet, minus, within, full, size, single
 use Rattle.network.specs.Links.{Links, linkedIn}
 use Rattle.network.specs.Card.{Network, network, refused, readCard}
 use Rattle.plan.specs.Members.{members}
-use Rattle.plan.specs.Due.{DueBlock, due, DueRoute, routesDue}
+use Rattle.plan.specs.Due.{DueBlock, due, Group, routesDue}
 use Rattle.plan.specs.Route.{path, serversOf, isRoute}
 
 -- the place reached and the carriages so far, or the refusal
@@ -38,16 +38,25 @@ isDue s at command next = cond (isCut s at) (stopped 2 at) (cond (eqb (getD s at
 unfoldable pub routeAt : List ℕ → ℕ → List ℕ
 routeAt s at = take 8 (drop (at + 1) s)
 
--- the routes that are due from a place on; `used` holds the servers, the receiver aside, of the earlier routes to this receiver
-unfoldable pub checkRoutes : ℕ → Links → ℕ → List ℕ → List DueRoute → (at carriages used : ℕ) → Progress
-checkRoutes n links F s [] at carriages used = reached at carriages
-checkRoutes n links F s (d ∷ ds) at carriages used =
-    let before = cond (d .fresh) 0 used in
-    let servers = minus (serversOf (path (routeAt s at))) (single (d .receiver)) in
-    let on = checkRoutes n links F s ds (at + 9) (carriages + 1) (union before servers) in
-    isDue s at (d .command)
-    (cond (not (isRoute n links F (d .sources) (d .receiver) (routeAt s at))) (stopped 9 at)
-    (cond (not (eqb (meet before servers) 0)) (stopped 10 at) on))
+-- k more routes of a group; `used` holds the servers, the receiver aside, of the earlier ones
+unfoldable pub checkGroup : ℕ → Links → ℕ → List ℕ → Group → (k at carriages used : ℕ) → Progress
+checkGroup n links F s g zero at carriages used = reached at carriages
+checkGroup n links F s g (suc k) at carriages used =
+    let servers = minus (serversOf (path (routeAt s at))) (single (g .receiver)) in
+    let on = checkGroup n links F s g k (at + 9) (carriages + 1) (union used servers) in
+    isDue s at (g .command)
+    (cond (not (isRoute n links F (g .sources) (g .receiver) (routeAt s at))) (stopped 9 at)
+    (cond (not (eqb (meet used servers) 0)) (stopped 10 at) on))
+
+-- on from a place that is reached
+abbrev pub andThen : Progress → (ℕ → ℕ → Progress) → Progress
+andThen (reached at carriages) next = next at carriages
+andThen (stopped number place) next = stopped number place
+
+unfoldable pub checkGroups : ℕ → Links → ℕ → List ℕ → List Group → (at carriages : ℕ) → Progress
+checkGroups n links F s [] at carriages = reached at carriages
+checkGroups n links F s (g ∷ gs) at carriages =
+    andThen (checkGroup n links F s g (g .count) at carriages 0) (λ (at′ carriages′ : ℕ). checkGroups n links F s gs at′ carriages′)
 
 -- every server of the list has a link to k
 unfoldable pub allLinked : Links → ℕ → List ℕ → Bool
@@ -65,10 +74,6 @@ checkReports n f links F s (k ∷ ks) at carriages =
     isDue s at 0x14
     (cond (eqb (getD s (at + 1) 0) k && isReport n f links F k (getD s (at + 2) 0)) on (stopped 11 at))
 
-abbrev pub andThen : Progress → (ℕ → ℕ → Progress) → Progress
-andThen (reached at carriages) next = next at carriages
-andThen (stopped number place) next = stopped number place
-
 -- a block from its 10 command on
 unfoldable pub checkBlock : ℕ → ℕ → Links → List ℕ → DueBlock → (at carriages : ℕ) → Progress
 checkBlock n f links s d at carriages =
@@ -77,7 +82,7 @@ checkBlock n f links s d at carriages =
     let A = getD s (at + 2) 0 in
     let S = getD s (at + 3) 0 in
     let rest =
-    andThen (checkRoutes n links F s (routesDue n f F A S) (at + 4) carriages 0)
+    andThen (checkGroups n links F s (routesDue n f F A S) (at + 4) carriages)
     (λ (at′ carriages′ : ℕ). checkReports n f links F s (members F) at′ carriages′) in
     isDue s at 0x10
     (cond (eqb F (d .faults) && (eqb A (d .part) || eqb A (minus W (d .part))))
