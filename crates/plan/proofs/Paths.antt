@@ -2,6 +2,7 @@
 --     part-next      the part of the operand from k on starts with byte k
 --     path-..        the loop that counts the servers before the fill
 --     fill-..        the loop over the fill
+--     set-..         the loop that collects the servers
 --     walk-..        the loop from server to server
 --     route-..       the answers of the route check
 -- Assumes nothing.
@@ -12,13 +13,13 @@ use Prim.Native.Nat.{ℕ, zero, suc, _+_, _-_, _≤_, _<_}
 use native.Mathlib.Numerals.{add-one}
 use native.Mathlib.Omega.{arith}
 use lib.ListN.{length, getD, take, drop, length-take, drop-of-length-le}
-use lib.Seq.{drop-cons, getD-take, length-take-le, take-take, take-all}
+use lib.Seq.{drop-cons, drop-length, getD-take, length-take-le, take-take}
 use lib.Dec.{eqb, ltb, leb}
-use borrow.Author.Tests.{lt-ltb, le-ltb, le-leb, lt-leb, eq-eqb, ne-eqb}
-use Rattle.facts.proofs.Bools.{cases}
+use borrow.Author.Tests.{lt-ltb, le-ltb, le-leb, lt-leb, eq-eqb, ne-eqb, ltb-true, ltb-false}
+use Rattle.facts.proofs.Bools.{cases, clash, and-right}
 use Rattle.sets.specs.Sets.{has, union, single}
 use Rattle.network.specs.Links.{Links, linkedIn}
-use Rattle.plan.specs.Route.{path, isFill, filled, goesOn, isPath, isRoute, checkedRoute}
+use Rattle.plan.specs.Route.{path, isFill, filled, serversOf, goesOn, isPath, isRoute, checkedRoute}
 
 module _ (m : ℕ) (s : List ℕ) (fits : m ≤ length s) where
   pub part-next : (k : ℕ) → k < m → drop k (take m s) ≡ getD s k 0 ∷ drop (k + 1) (take m s)
@@ -70,6 +71,19 @@ module _ (s : List ℕ) (fits : 8 ≤ length s) (k : ℕ) where
   pub fill-ends : 8 ≤ k → true ≡ isFill (drop k (take 8 s))
   unfolding isFill
   fill-ends h = sym (rw (part-over 8 s fits k h) refl)
+
+-- the set of the servers on a path, from the last one on
+pub set-starts : (s : List ℕ) → 0 ≡ serversOf (drop (length s) s)
+unfolding serversOf
+set-starts s = sym (rw (drop-length s) refl)
+
+pub set-turn : (s : List ℕ) (left : ℕ) → 0 < left → left ≤ length s → (set one set′ : ℕ) → set ≡ serversOf (drop left s)
+    → one ≡ single (getD s (left - 1) 0) → set′ ≡ union one set → set′ ≡ serversOf (drop (left - 1) s)
+unfolding serversOf
+set-turn s left z h set one set′ p q r =
+    let e : suc (left - 1) ≡ left = omega arith in
+    let d : drop (left - 1) s ≡ getD s (left - 1) 0 ∷ drop left s = drop-cons s (left - 1) 0 (omega arith) ∙ ap (λ (k : ℕ). getD s (left - 1) 0 ∷ drop k s) e in
+    r ∙ sym (ap serversOf d ∙ cc)
 
 -- the walk from server to server: `last` is the one before, `busy` holds F and the servers so far
 module _ (n : ℕ) (links : Links) (busy last receiver : ℕ) (s : List ℕ) (end : ℕ) (fits : end ≤ length s) (i : ℕ) where
@@ -185,3 +199,14 @@ module _ (n : ℕ) (links : Links) (F sources receiver : ℕ) (s : List ℕ) whe
             route-sound x =
                 let y : isRoute n links F sources receiver (take 8 s) ≡ true = route-is ∙ simp (lt-ltb _ _ a, sym e ∙ f, sym g ∙ t, sym v ∙ x) in
                 sym (simp (le-leb 8 (length s) h, y) path-is)
+
+-- a route that keeps the rules is handed back with its servers, at least two
+pub route-not-empty : (n : ℕ) (links : Links) (F sources receiver : ℕ) (s : List ℕ) → 8 ≤ length s → isRoute n links F sources receiver (take 8 s) ≡ true
+    → 2 ≤ length (checkedRoute n links F sources receiver s)
+unfolding checkedRoute isRoute
+route-not-empty n links F sources receiver s h e =
+    let p : isPath n links F sources receiver (path (take 8 s)) ≡ true = and-right (filled (take 8 s)) (isPath n links F sources receiver (path (take 8 s))) e in
+    simp (le-leb 8 (length s) h, e) (long (path (take 8 s)) p)
+  where
+    long : (p : List ℕ) → isPath n links F sources receiver p ≡ true → 2 ≤ length p
+    long p q = cases (ltb (length p) 2) (λ t. clash (isPath n links F sources receiver p) q (isPath-short n links F sources receiver p (ltb-true (length p) 2 t))) (λ t. ltb-false (length p) 2 t)

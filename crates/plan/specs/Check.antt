@@ -2,7 +2,7 @@
 --     checkPlan card plan  == the number of blocks and of carriages, or the one refusal, the card's first
 use mathlib.Core.Bool.{Bool, true, false, cond, not, _&&_, _||_}
 use mathlib.Core.List.{List, [], _∷_, _++_}
-use Prim.Native.Nat.{ℕ, zero, suc, _+_}
+use Prim.Native.Nat.{ℕ, zero, suc, _+_, _-_}
 use lib.Dec.{eqb, ltb, leb}
 use lib.ListN.{length, getD, take, drop}
 use Rattle.refusal.specs.Refused.{Refused, plan}
@@ -22,13 +22,15 @@ pub data Progress : Type 0 where
 unfoldable pub width : ℕ → ℕ
 width c =
     cond (eqb c 0x10) 4
-    (cond (eqb c 0x11 || (eqb c 0x12 || eqb c 0x13)) 9
+    (cond (eqb c 0x11) 9
+    (cond (eqb c 0x12) 9
+    (cond (eqb c 0x13) 9
     (cond (eqb c 0x14) 3
-    (cond (eqb c 0x15) 1 0)))
+    (cond (eqb c 0x15) 1 0)))))
 
 -- no command, an unknown one, or one whose operands are cut off
 unfoldable pub isCut : List ℕ → ℕ → Bool
-isCut s at = not (ltb at (length s)) || (eqb (width (getD s at 0)) 0 || ltb (length s) (at + width (getD s at 0)))
+isCut s at = not (ltb at (length s)) || (eqb (width (getD s at 0)) 0 || ltb (length s - at) (width (getD s at 0)))
 
 -- the tests 2 and 7 of the command at a place, and what follows for the command that is due
 unfoldable pub isDue : List ℕ → ℕ → ℕ → Progress → Progress
