@@ -1,0 +1,8 @@
+-- Counts      how many blocks are due, computed from the definition
+-- Commands    the command at a place
+-- Paths       the servers of a route: where the fill starts, and the walk from server to server
+-- Groups      the separate routes to one receiver
+pub mod Counts
+pub mod Commands
+pub mod Paths
+pub mod Groups

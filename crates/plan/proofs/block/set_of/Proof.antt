@@ -1,0 +1,68 @@
+use mathlib.Core.Path.{_≡_, refl, sym, ap, _∙_}
+use mathlib.Core.Logic.{_⊎_, inl, inr, ⊎-elim}
+use mathlib.Core.Bool.{Bool, true, false}
+use Prim.Native.Nat.{ℕ, _+_, _-_, _≤_, _<_}
+use native.Mathlib.Omega.{arith}
+use borrow.Author.Needs.{needs}
+use lib.ListN.{length, drop}
+use Rattle.plan.specs.Route.{serversOf}
+use Rattle.plan.proofs.Paths.{set-starts, set-turn}
+use Rattle.plan.proofs.block.set_of.Statement.{statement}
+use Rattle.plan.proofs.block.set_of.Tie as tie
+use Rattle.plan.proofs.block.set_of.Reads as reads
+use Rattle.plan.proofs.block.set_of.Lts as lts
+use Rattle.sets.proofs.single.Reads as single-reads
+use Rattle.sets.proofs.union.Reads as union-reads
+
+abbrev Inv-loop : tie.InvT-loop
+Inv-loop servers set₀ left₀ set left = (left ≤ length servers) × (set ≡ serversOf (drop left servers))
+
+abbrev μ-loop : tie.MeasureT-loop
+μ-loop servers set₀ left₀ set left = left
+
+-- src/group.rt:11:5
+loop-holds : tie.Need-loop-holds Inv-loop μ-loop
+loop-holds c = (omega arith, set-starts (c .before .args .servers .now))
+
+-- src/group.rt:12:18
+sub-at : tie.Need-sub-at Inv-loop μ-loop
+sub-at c = search needs
+
+-- src/group.rt:13:40
+shared-slice-read-single : tie.Need-shared-slice-read-single Inv-loop μ-loop
+shared-slice-read-single c = search needs
+
+-- src/group.rt:13:27
+single-requires : tie.Need-single-requires Inv-loop μ-loop
+single-requires c κs = search needs
+
+-- src/group.rt:13:9
+union-requires : tie.Need-union-requires Inv-loop μ-loop
+union-requires c κs = search needs
+
+-- src/group.rt:11:5
+loop-less : tie.Need-loop-less Inv-loop μ-loop
+loop-less c = search needs
+
+-- src/group.rt:11:5
+loop-again : tie.Need-loop-again Inv-loop μ-loop
+loop-again c = (omega arith, set-turn _ _ (c .before .before .before .loop-test .taken) (c .before .before .before .before .loop .inv .0) _ _ _ (c .before .before .before .before .loop .inv .1) (c .before .single .ensures) (c .union .ensures))
+
+-- src/group.rt:6:1
+returns : tie.Need-returns Inv-loop μ-loop
+returns c = let e : c .before .loop .left ≡ 0 = omega arith in rw e at (c .before .loop .inv .1)
+
+pub set-of-spec : {M : Type 1} → statement M
+set-of-spec =
+    tie.close
+    (tie.spec
+    Inv-loop
+    μ-loop
+    loop-holds
+    sub-at
+    shared-slice-read-single
+    single-requires
+    union-requires
+    loop-less
+    loop-again
+    returns)

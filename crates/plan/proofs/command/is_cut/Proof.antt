@@ -1,0 +1,43 @@
+use Rattle.plan.proofs.Commands.{cut-none, cut-unknown, cut-short}
+use mathlib.Core.Path.{_≡_, refl, sym, ap, _∙_}
+use mathlib.Core.Logic.{_⊎_, inl, inr, ⊎-elim}
+use mathlib.Core.Bool.{Bool, true, false}
+use Prim.Native.Nat.{ℕ, _+_, _-_, _≤_, _<_}
+use native.Mathlib.Omega.{arith}
+use borrow.Author.Needs.{needs}
+use borrow.Author.Tests.{lt-ltb, le-ltb, eq-eqb, ne-eqb}
+use Rattle.plan.specs.Check.{width, isCut}
+use Rattle.plan.proofs.command.is_cut.Statement.{statement}
+use Rattle.plan.proofs.command.is_cut.Tie as tie
+use Rattle.plan.proofs.command.is_cut.Reads as reads
+use Rattle.plan.proofs.command.is_cut.Lts as lts
+use Rattle.plan.proofs.command.width.Reads as width-reads
+
+-- src/command.rt:35:27
+shared-slice-read-width : tie.Need-shared-slice-read-width
+shared-slice-read-width c = search needs
+
+-- src/command.rt:35:13
+width-requires : tie.Need-width-requires
+width-requires c κs = search needs
+
+-- src/command.rt:37:13
+returns : tie.Need-returns
+returns c = cut-unknown _ _ (c .before .before .before .if1 .taken) _ (c .before .width .ensures) (c .if2 .taken)
+
+-- src/command.rt:39:16
+sub-result : tie.Need-sub-result
+sub-result c = search needs
+
+-- src/command.rt:39:9
+returns-2 : tie.Need-returns-2
+returns-2 c = cut-short _ _ (c .before .before .before .if1 .taken) _ (c .before .width .ensures) (c .if2 .left)
+
+-- src/command.rt:31:1
+returns-3 : tie.Need-returns-3
+returns-3 c = cut-none _ _ (c .if1 .left)
+
+pub is-cut-spec : {M : Type 1} → statement M
+is-cut-spec =
+    tie.close
+    (tie.spec shared-slice-read-width width-requires returns sub-result returns-2 returns-3)

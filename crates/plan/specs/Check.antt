@@ -1,0 +1,115 @@
+-- What the bytes of a plan give, command by command, each tested in the order of paper 01's table: 2, 7, 8, 9, 10, 11.
+--     checkPlan card plan  == the number of blocks and of carriages, or the one refusal, the card's first
+use mathlib.Core.Bool.{Bool, true, false, cond, not, _&&_, _||_}
+use mathlib.Core.List.{List, [], _∷_, _++_}
+use Prim.Native.Nat.{ℕ, zero, suc, _+_, _-_}
+use lib.Dec.{eqb, ltb, leb}
+use lib.ListN.{length, getD, take, drop}
+use Rattle.refusal.specs.Refused.{Refused, plan}
+use Rattle.sets.specs.Sets.{has, union, meet, minus, within, full, size, single}
+use Rattle.network.specs.Links.{Links, linkedIn}
+use Rattle.network.specs.Card.{Network, network, refused, readCard}
+use Rattle.plan.specs.Members.{members}
+use Rattle.plan.specs.Due.{DueBlock, due, Group, routesDue}
+use Rattle.plan.specs.Route.{path, serversOf, isRoute}
+
+-- the place reached and the carriages so far, or the refusal
+pub data Progress : Type 0 where
+  reached : (at carriages : ℕ) → Progress
+  stopped : (number place : ℕ) → Progress
+
+-- how many bytes a command takes: 10 F A S, 11 to 13 with a route, 14 k N, 15; 0 for an unknown one
+unfoldable pub width : ℕ → ℕ
+width c =
+    cond (eqb c 0x10) 4
+    (cond (eqb c 0x11) 9
+    (cond (eqb c 0x12) 9
+    (cond (eqb c 0x13) 9
+    (cond (eqb c 0x14) 3
+    (cond (eqb c 0x15) 1 0)))))
+
+-- no command, an unknown one, or one whose operands are cut off
+unfoldable pub isCut : List ℕ → ℕ → Bool
+isCut s at = not (ltb at (length s)) || (eqb (width (getD s at 0)) 0 || ltb (length s - at) (width (getD s at 0)))
+
+-- the tests 2 and 7 of the command at a place, and what follows for the command that is due
+unfoldable pub isDue : List ℕ → ℕ → ℕ → Progress → Progress
+isDue s at command next = cond (isCut s at) (stopped 2 at) (cond (eqb (getD s at 0) command) next (stopped 7 at))
+
+-- the eight bytes of the route at a place
+unfoldable pub routeAt : List ℕ → ℕ → List ℕ
+routeAt s at = take 8 (drop (at + 1) s)
+
+-- k more routes of a group; `used` holds the servers, the receiver aside, of the earlier ones
+unfoldable pub checkGroup : ℕ → Links → ℕ → List ℕ → Group → (k at carriages used : ℕ) → Progress
+checkGroup n links F s g zero at carriages used = reached at carriages
+checkGroup n links F s g (suc k) at carriages used =
+    let servers = minus (serversOf (path (routeAt s at))) (single (g .receiver)) in
+    let on = checkGroup n links F s g k (at + 9) (carriages + 1) (union used servers) in
+    isDue s at (g .command)
+    (cond (not (isRoute n links F (g .sources) (g .receiver) (routeAt s at))) (stopped 9 at)
+    (cond (not (eqb (meet used servers) 0)) (stopped 10 at) on))
+
+-- on from a place that is reached
+abbrev pub andThen : Progress → (ℕ → ℕ → Progress) → Progress
+andThen (reached at carriages) next = next at carriages
+andThen (stopped number place) next = stopped number place
+
+unfoldable pub checkGroups : ℕ → Links → ℕ → List ℕ → List Group → (at carriages : ℕ) → Progress
+checkGroups n links F s [] at carriages = reached at carriages
+checkGroups n links F s (g ∷ gs) at carriages =
+    andThen (checkGroup n links F s g (g .count) at carriages 0) (λ (at′ carriages′ : ℕ). checkGroups n links F s gs at′ carriages′)
+
+-- every server of the list has a link to k
+unfoldable pub allLinked : Links → ℕ → List ℕ → Bool
+allLinked links k [] = true
+allLinked links k (m ∷ ms) = linkedIn links m k && allLinked links k ms
+
+-- N is exactly f + 1 servers of V−F, each with a link to k
+unfoldable pub isReport : ℕ → ℕ → Links → ℕ → ℕ → ℕ → Bool
+isReport n f links F k N = within N (minus (full n) F) && (eqb (size N) (f + 1) && allLinked links k (members N))
+
+unfoldable pub checkReports : ℕ → ℕ → Links → ℕ → List ℕ → List ℕ → (at carriages : ℕ) → Progress
+checkReports n f links F s [] at carriages = reached at carriages
+checkReports n f links F s (k ∷ ks) at carriages =
+    let on = checkReports n f links F s ks (at + 3) (carriages + (f + 1)) in
+    isDue s at 0x14
+    (cond (eqb (getD s (at + 1) 0) k && isReport n f links F k (getD s (at + 2) 0)) on (stopped 11 at))
+
+-- a block from its 10 command on
+unfoldable pub checkBlock : ℕ → ℕ → Links → List ℕ → DueBlock → (at carriages : ℕ) → Progress
+checkBlock n f links s d at carriages =
+    let W = minus (full n) (d .faults) in
+    let F = getD s (at + 1) 0 in
+    let A = getD s (at + 2) 0 in
+    let S = getD s (at + 3) 0 in
+    let rest =
+    andThen (checkGroups n links F s (routesDue n f F A S) (at + 4) carriages)
+    (λ (at′ carriages′ : ℕ). checkReports n f links F s (members F) at′ carriages′) in
+    isDue s at 0x10
+    (cond (eqb F (d .faults) && (eqb A (d .part) || eqb A (minus W (d .part))))
+    (cond (not (eqb S 0) && within S W) rest (stopped 8 at))
+    (stopped 7 at))
+
+unfoldable pub checkBlocks : ℕ → ℕ → Links → List ℕ → List DueBlock → (at carriages : ℕ) → Progress
+checkBlocks n f links s [] at carriages =
+    isDue s at 0x15 (cond (ltb (at + 1) (length s)) (stopped 3 (at + 1)) (reached (at + 1) carriages))
+checkBlocks n f links s (d ∷ ds) at carriages =
+    andThen (checkBlock n f links s d at carriages) (λ (at′ carriages′ : ℕ). checkBlocks n f links s ds at′ carriages′)
+
+pub data Totals : Type 0 where
+  totals : (blocks carriages : ℕ) → Totals
+  turned : Refused → Totals
+
+abbrev pub totalsOf : ℕ → Progress → Totals
+totalsOf blocks (reached at carriages) = totals blocks carriages
+totalsOf blocks (stopped number place) = turned (plan number place)
+
+unfoldable pub checkOn : Network → List ℕ → Totals
+checkOn (refused r) s = turned r
+checkOn (network n f links) s =
+    let answer = totalsOf (length (due n f)) (checkBlocks n f links s (due n f) 0 0) in
+    cond (ltb 1048576 (length s)) (turned (plan 1 0)) answer
+
+unfoldable pub checkPlan : List ℕ → List ℕ → Totals
+checkPlan card s = checkOn (readCard card) s
