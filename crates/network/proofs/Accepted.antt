@@ -13,12 +13,13 @@ use Rattle.facts.proofs.Bools.{cases, clash}
 use Rattle.refusal.specs.Refused.{Refused, card}
 use Rattle.network.specs.Links.{Links, linkedIn, withLink}
 use Rattle.network.specs.Card.{network, refused, more, done, turnedBack, headFits, linkFits, headAt, linkAt, endAt, stepAt, readCard}
-use Rattle.network.proofs.Reading.{Reading, reading-answer}
+use Rattle.network.specs.Places.{At}
+use Rattle.network.proofs.Reading.{reading-answer}
 
 abbrev pub Accepted : List ℕ → Type 0
 Accepted s = (r : Refused) → readCard s ≡ refused r → ⊥
 
-module _ {s : List ℕ} {at n f : ℕ} {links : Links} (r : Reading s at n f links) (ok : Accepted s) where
+module _ {s : List ℕ} {at n f : ℕ} {links : Links} (r : At s at n f links) (ok : Accepted s) where
   not-back : (number place : ℕ) → stepAt s at n f links ≡ turnedBack number place → ⊥
   not-back number place e = ok (card number place) (sym (reading-answer r (refused (card number place)) e))
 

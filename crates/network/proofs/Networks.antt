@@ -15,7 +15,8 @@ use Rattle.refusal.specs.Refused.{Refused}
 use Rattle.network.specs.Links.{Links, noLinks, linkedIn, withLink}
 use Rattle.network.specs.Card.{Network, network, refused, headFits, linkFits, readCard}
 use Rattle.network.specs.Proper.{Proper}
-use Rattle.network.proofs.Reading.{Reading, reading-starts, reading-answer, reading-goes}
+use Rattle.network.specs.Places.{At}
+use Rattle.network.proofs.Reading.{reading-starts, reading-answer, reading-goes}
 use Rattle.network.proofs.Accepted.{Accepted, Headed, Linked, Ended, outcome, accepted-short}
 
 no-links : (u v : ℕ) → linkedIn noLinks u v ≡ false
@@ -80,7 +81,7 @@ same-network {n} {f} {n′} {f′} {links} {links′} e p =
     rw (← a, ← b, ← c) p
 
 module _ (s : List ℕ) (ok : Accepted s) (n′ f′ : ℕ) (links′ : Links) (is : readCard s ≡ network n′ f′ links′) where
-  proper-from : (k at n f : ℕ) (links : Links) → length s ≤ at + k → 0 < at → Reading s at n f links → Proper n f links → Proper n′ f′ links′
+  proper-from : (k at n f : ℕ) (links : Links) → length s ≤ at + k → 0 < at → At s at n f links → Proper n f links → Proper n′ f′ links′
   proper-from zero at n f links h z r p = go (outcome r ok)
     where
       go : Headed r ok ⊎ (Linked r ok ⊎ Ended r ok) → Proper n′ f′ links′
@@ -88,11 +89,11 @@ module _ (s : List ℕ) (ok : Accepted s) (n′ f′ : ℕ) (links′ : Links) (
       go (inr (inl w)) = let q = w .room in absurd (omega arith)
       go (inr (inr w)) = same-network (reading-answer r (network n f links) (w .step) ∙ is) p
   proper-from (suc k) at n f links h z r p =
-      let on : (links″ : Links) → Reading s (at + 3) n f links″ → Proper n f links″ → Proper n′ f′ links′ =
+      let on : (links″ : Links) → At s (at + 3) n f links″ → Proper n f links″ → Proper n′ f′ links′ =
       λ links″ r″ p″. proper-from k (at + 3) n f links″ (omega arith) (omega arith) r″ p″ in
       go on (outcome r ok)
     where
-      go : ((links″ : Links) → Reading s (at + 3) n f links″ → Proper n f links″ → Proper n′ f′ links′) → Headed r ok ⊎ (Linked r ok ⊎ Ended r ok) → Proper n′ f′ links′
+      go : ((links″ : Links) → At s (at + 3) n f links″ → Proper n f links″ → Proper n′ f′ links′) → Headed r ok ⊎ (Linked r ok ⊎ Ended r ok) → Proper n′ f′ links′
       go on (inl w) = let q = w .first in absurd (omega arith)
       go on (inr (inl w)) =
           on (withLink links (getD s (at + 1) 0) (getD s (at + 2) 0))
@@ -112,7 +113,7 @@ card-proper s n f links is = go (outcome start ok)
     ok : Accepted s
     ok = network-accepted s n f links is
 
-    start : Reading s 0 0 0 noLinks
+    start : At s 0 0 0 noLinks
     start = reading-starts s (accepted-short s ok)
 
     go : Headed start ok ⊎ (Linked start ok ⊎ Ended start ok) → Proper n f links

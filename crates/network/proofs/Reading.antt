@@ -1,32 +1,29 @@
--- The card reader's loop. `Reading s at n f links` says that what is left to read from `at` on gives the answer of the whole card; the fuel is
--- what the definition counts down, and is never used up. One lemma for each way that a command ends. Assumes nothing.
+-- The card reader. `At s at n f links` says that what is left to read from `at` on gives the answer of the whole card; the fuel is what the
+-- definition counts down, and is never used up. One lemma for each way that a command ends. Assumes nothing.
 use mathlib.Core.Path.{_≡_, refl, sym, ap, _∙_}
-use mathlib.Core.Bool.{Bool, true, false, cond, not}
+use mathlib.Core.Bool.{Bool, true, false, cond, not, _&&_}
 use mathlib.Core.List.{List, []}
 use Prim.Native.Nat.{ℕ, zero, suc, _+_, _-_, _≤_, _<_}
 use native.Mathlib.Omega.{arith}
 use lib.ListN.{length, getD, set}
 use lib.Dec.{eqb, ltb}
-use borrow.Author.Tests.{lt-ltb, le-ltb, eq-eqb, ne-eqb, ltb-true, ltb-false}
-use Rattle.facts.proofs.Bools.{bools}
-use Rattle.refusal.specs.Refused.{Refused, card}
+use borrow.Author.Tests.{lt-ltb, le-ltb, eq-eqb, ne-eqb, eqb-true, eqb-false, ltb-true, ltb-false}
+use Rattle.facts.proofs.Bools.{bools, cases, clash}
+use Rattle.refusal.specs.Refused.{Refused, card, cardRefusal}
+use Rattle.refusal.specs.declared.CardGround.{CardGround}
 use Rattle.network.specs.Links.{Links, noLinks, linkedIn, withLink}
 use Rattle.network.specs.Card.{Network, network, refused, Step, more, done, turnedBack, headFits, linkFits, headAt, linkAt, endAt, stepAt, commands, readCard, turned, headOf, linksAfter}
+use Rattle.network.specs.Places.{At, wholeLink, Opened, Opening}
+use Rattle.network.specs.declared.card.Head as C
 use Rattle.network.specs.Answers.{readingOf, Answered}
 use Rattle.network.specs.declared.card.Reading as R
-
-pub record Reading (s : List ℕ) (at n f : ℕ) (links : Links) : Type 0 where
-  pub fuel : ℕ
-  pub inside : at ≤ length s
-  pub enough : length s ≤ at + fuel
-  pub left : commands (suc fuel) s (more at n f links) ≡ readCard s
 
 commands-done : (k : ℕ) (s : List ℕ) (answer : Network) → commands k s (done answer) ≡ answer
 unfolding commands
 commands-done zero s answer = refl
 commands-done (suc k) s answer = refl
 
-pub reading-starts : (s : List ℕ) → length s ≤ 1024 → Reading s 0 0 0 noLinks
+pub reading-starts : (s : List ℕ) → length s ≤ 1024 → At s 0 0 0 noLinks
 unfolding readCard
 reading-starts s h = record { fuel = length s; inside = omega arith; enough = omega arith; left = simp (le-ltb 1024 (length s) h) }
 
@@ -34,7 +31,7 @@ pub reading-long : (s : List ℕ) → 1024 < length s → refused (card 1 0) ≡
 unfolding readCard
 reading-long s h = simp (lt-ltb 1024 (length s) h)
 
-module _ {s : List ℕ} {at n f : ℕ} {links : Links} (r : Reading s at n f links) where
+module _ {s : List ℕ} {at n f : ℕ} {links : Links} (r : At s at n f links) where
   pub reading-step : commands (r .fuel) s (stepAt s at n f links) ≡ readCard s
   unfolding commands
   reading-step = r .left
@@ -42,98 +39,128 @@ module _ {s : List ℕ} {at n f : ℕ} {links : Links} (r : Reading s at n f lin
   pub reading-answer : (answer : Network) → stepAt s at n f links ≡ done answer → answer ≡ readCard s
   reading-answer answer e = sym (commands-done (r .fuel) s answer) ∙ ap (commands (r .fuel) s) (sym e) ∙ reading-step
 
-  pub reading-goes : (at′ n′ f′ : ℕ) (links′ : Links) → stepAt s at n f links ≡ more at′ n′ f′ links′ → at < at′ → at′ ≤ length s → Reading s at′ n′ f′ links′
+  pub reading-goes : (at′ n′ f′ : ℕ) (links′ : Links) → stepAt s at n f links ≡ more at′ n′ f′ links′ → at < at′ → at′ ≤ length s → At s at′ n′ f′ links′
   reading-goes at′ n′ f′ links′ e h k = go (r .fuel) (r .enough) (ap (commands (r .fuel) s) (sym e) ∙ reading-step)
     where
-      go : (fuel : ℕ) → length s ≤ at + fuel → commands fuel s (more at′ n′ f′ links′) ≡ readCard s → Reading s at′ n′ f′ links′
+      go : (fuel : ℕ) → length s ≤ at + fuel → commands fuel s (more at′ n′ f′ links′) ≡ readCard s → At s at′ n′ f′ links′
       go zero q p = absurd (omega arith)
       go (suc fuel) q p = record { fuel = fuel; inside = k; enough = omega arith; left = p }
 
+-- the step at a place, by what stands there
+
+module _ (s : List ℕ) (at n f : ℕ) (links : Links) where
   -- no byte where a command is due
-  pub reads-none : length s ≤ at → refused (card 2 at) ≡ readCard s
+  pub step-none : length s ≤ at → stepAt s at n f links ≡ turnedBack 2 at
   unfolding stepAt
-  reads-none h = reading-answer (refused (card 2 at)) (simp (le-ltb at (length s) h))
+  step-none h = simp (le-ltb at (length s) h)
 
   module _ (h : at < length s) where
     -- an unknown command
-    pub reads-unknown : (getD s at 0 ≡ 3 → ⊥) → (getD s at 0 ≡ 1 → ⊥) → (getD s at 0 ≡ 2 → ⊥) → refused (card 2 at) ≡ readCard s
+    pub step-unknown : (getD s at 0 ≡ 3 → ⊥) → (getD s at 0 ≡ 1 → ⊥) → (getD s at 0 ≡ 2 → ⊥) → stepAt s at n f links ≡ turnedBack 2 at
     unfolding stepAt
-    reads-unknown a b d = reading-answer (refused (card 2 at)) (simp (lt-ltb at (length s) h, ne-eqb _ _ a, ne-eqb _ _ b, ne-eqb _ _ d))
+    step-unknown a b d = simp (lt-ltb at (length s) h, ne-eqb _ _ a, ne-eqb _ _ b, ne-eqb _ _ d)
 
     module _ (e : getD s at 0 ≡ 3) where
       step-end : stepAt s at n f links ≡ endAt s at n f links
       unfolding stepAt
       step-end = simp (lt-ltb at (length s) h, eq-eqb _ _ e)
 
-      pub end-first : at ≡ 0 → refused (card 4 at) ≡ readCard s
+      pub end-first : at ≡ 0 → stepAt s at n f links ≡ turnedBack 4 at
       unfolding endAt
-      end-first z = reading-answer (refused (card 4 at)) (step-end ∙ simp (eq-eqb at 0 z))
+      end-first z = step-end ∙ simp (eq-eqb at 0 z)
 
-      pub end-trailing : (at ≡ 0 → ⊥) → at + 1 < length s → refused (card 3 (at + 1)) ≡ readCard s
+      pub end-trailing : (at ≡ 0 → ⊥) → at + 1 < length s → stepAt s at n f links ≡ turnedBack 3 (at + 1)
       unfolding endAt
-      end-trailing z k = reading-answer (refused (card 3 (at + 1))) (step-end ∙ simp (ne-eqb at 0 z, lt-ltb (at + 1) (length s) k))
+      end-trailing z k = step-end ∙ simp (ne-eqb at 0 z, lt-ltb (at + 1) (length s) k)
 
-      step-done : (at ≡ 0 → ⊥) → length s ≤ at + 1 → stepAt s at n f links ≡ done (network n f links)
+      pub end-read : (at ≡ 0 → ⊥) → length s ≤ at + 1 → stepAt s at n f links ≡ done (network n f links)
       unfolding endAt
-      step-done z k = step-end ∙ simp (ne-eqb at 0 z, le-ltb (at + 1) (length s) k)
+      end-read z k = step-end ∙ simp (ne-eqb at 0 z, le-ltb (at + 1) (length s) k)
 
-      pub end-read : (at ≡ 0 → ⊥) → length s ≤ at + 1 → network n f links ≡ readCard s
-      end-read z k = reading-answer (network n f links) (step-done z k)
-
-    module _ (x : getD s at 0 ≡ 3 → ⊥) (e : getD s at 0 ≡ 1) where
+    module _ (e : getD s at 0 ≡ 1) where
       step-head : stepAt s at n f links ≡ headAt s at links
       unfolding stepAt
-      step-head = simp (lt-ltb at (length s) h, ne-eqb _ _ x, eq-eqb _ _ e)
+      step-head = let x = ne-eqb (getD s at 0) 3 (λ (q : getD s at 0 ≡ 3). absurd (omega arith)) in simp (lt-ltb at (length s) h, x, eq-eqb _ _ e)
 
-      pub head-cut : length s - at < 3 → refused (card 2 at) ≡ readCard s
+      pub head-cut : length s - at < 3 → stepAt s at n f links ≡ turnedBack 2 at
       unfolding headAt
-      head-cut k = reading-answer (refused (card 2 at)) (step-head ∙ simp (lt-ltb (length s) (at + 3) (omega arith)))
+      head-cut k = step-head ∙ simp (lt-ltb (length s) (at + 3) (omega arith))
 
       module _ (k : 3 ≤ length s - at) where
-        pub head-again : (at ≡ 0 → ⊥) → refused (card 4 at) ≡ readCard s
+        pub head-again : (at ≡ 0 → ⊥) → stepAt s at n f links ≡ turnedBack 4 at
         unfolding headAt
-        head-again z = reading-answer (refused (card 4 at)) (step-head ∙ simp (le-ltb (length s) (at + 3) (omega arith), ne-eqb at 0 z))
+        head-again z = step-head ∙ simp (le-ltb (length s) (at + 3) (omega arith), ne-eqb at 0 z)
 
-        pub head-range : (b : Bool) → at ≡ 0 → b ≡ headFits (getD s (at + 1) 0) (getD s (at + 2) 0) → b ≡ false → refused (card 5 at) ≡ readCard s
-        unfolding headAt
-        head-range b z q w = reading-answer (refused (card 5 at)) (step-head ∙ simp (le-ltb (length s) (at + 3) (omega arith), eq-eqb at 0 z, sym q ∙ w))
+        module _ (z : at ≡ 0) (b : Bool) (q : b ≡ headFits (getD s (at + 1) 0) (getD s (at + 2) 0)) where
+          pub head-range : b ≡ false → stepAt s at n f links ≡ turnedBack 5 at
+          unfolding headAt
+          head-range w = step-head ∙ simp (le-ltb (length s) (at + 3) (omega arith), eq-eqb at 0 z, sym q ∙ w)
 
-        pub head-goes : (b : Bool) → at ≡ 0 → b ≡ headFits (getD s (at + 1) 0) (getD s (at + 2) 0) → b ≡ true → Reading s (at + 3) (getD s (at + 1) 0) (getD s (at + 2) 0) links
-        unfolding headAt
-        head-goes b z q w =
-            reading-goes (at + 3) (getD s (at + 1) 0) (getD s (at + 2) 0) links
-            (step-head ∙ simp (le-ltb (length s) (at + 3) (omega arith), eq-eqb at 0 z, sym q ∙ w)) (omega arith) (omega arith)
+          pub head-goes : b ≡ true → stepAt s at n f links ≡ more (at + 3) (getD s (at + 1) 0) (getD s (at + 2) 0) links
+          unfolding headAt
+          head-goes w = step-head ∙ simp (le-ltb (length s) (at + 3) (omega arith), eq-eqb at 0 z, sym q ∙ w)
 
-    module _ (x : getD s at 0 ≡ 3 → ⊥) (y : getD s at 0 ≡ 1 → ⊥) (e : getD s at 0 ≡ 2) where
+    module _ (e : getD s at 0 ≡ 2) where
       step-link : stepAt s at n f links ≡ linkAt s at n f links
       unfolding stepAt
-      step-link = simp (lt-ltb at (length s) h, ne-eqb _ _ x, ne-eqb _ _ y, eq-eqb _ _ e)
+      step-link =
+          let x = ne-eqb (getD s at 0) 3 (λ (q : getD s at 0 ≡ 3). absurd (omega arith)) in
+          let y = ne-eqb (getD s at 0) 1 (λ (q : getD s at 0 ≡ 1). absurd (omega arith)) in
+          simp (lt-ltb at (length s) h, x, y, eq-eqb _ _ e)
 
-      pub link-cut : length s - at < 3 → refused (card 2 at) ≡ readCard s
+      pub link-cut : length s - at < 3 → stepAt s at n f links ≡ turnedBack 2 at
       unfolding linkAt
-      link-cut k = reading-answer (refused (card 2 at)) (step-link ∙ simp (lt-ltb (length s) (at + 3) (omega arith)))
+      link-cut k = step-link ∙ simp (lt-ltb (length s) (at + 3) (omega arith))
 
       module _ (k : 3 ≤ length s - at) where
-        pub link-first : at ≡ 0 → refused (card 4 at) ≡ readCard s
+        pub link-first : at ≡ 0 → stepAt s at n f links ≡ turnedBack 4 at
         unfolding linkAt
-        link-first z = reading-answer (refused (card 4 at)) (step-link ∙ simp (le-ltb (length s) (at + 3) (omega arith), eq-eqb at 0 z))
+        link-first z = step-link ∙ simp (le-ltb (length s) (at + 3) (omega arith), eq-eqb at 0 z)
 
         module _ (z : at ≡ 0 → ⊥) (b : Bool) (q : b ≡ linkFits n (getD s (at + 1) 0) (getD s (at + 2) 0)) where
-          pub link-range : b ≡ false → refused (card 5 at) ≡ readCard s
+          pub link-range : b ≡ false → stepAt s at n f links ≡ turnedBack 5 at
           unfolding linkAt
-          link-range w = reading-answer (refused (card 5 at)) (step-link ∙ simp (le-ltb (length s) (at + 3) (omega arith), ne-eqb at 0 z, sym q ∙ w))
+          link-range w = step-link ∙ simp (le-ltb (length s) (at + 3) (omega arith), ne-eqb at 0 z, sym q ∙ w)
 
           module _ (w : b ≡ true) where
-            pub link-repeated : getD (getD links (getD s (at + 1) 0) []) (getD s (at + 2) 0) false ≡ true → refused (card 6 at) ≡ readCard s
+            pub link-repeated : getD (getD links (getD s (at + 1) 0) []) (getD s (at + 2) 0) false ≡ true → stepAt s at n f links ≡ turnedBack 6 at
             unfolding linkAt linkedIn
-            link-repeated g = reading-answer (refused (card 6 at)) (step-link ∙ simp (le-ltb (length s) (at + 3) (omega arith), ne-eqb at 0 z, sym q ∙ w, g))
+            link-repeated g = step-link ∙ simp (le-ltb (length s) (at + 3) (omega arith), ne-eqb at 0 z, sym q ∙ w, g)
 
             pub link-goes : getD (getD links (getD s (at + 1) 0) []) (getD s (at + 2) 0) false ≡ false
-                → Reading s (at + 3) n f (set links (getD s (at + 1) 0) (set (getD links (getD s (at + 1) 0) []) (getD s (at + 2) 0) true))
+                → stepAt s at n f links ≡ more (at + 3) n f (set links (getD s (at + 1) 0) (set (getD links (getD s (at + 1) 0) []) (getD s (at + 2) 0) true))
             unfolding linkAt linkedIn withLink
-            link-goes g =
-                reading-goes (at + 3) n f (set links (getD s (at + 1) 0) (set (getD links (getD s (at + 1) 0) []) (getD s (at + 2) 0) true))
-                (step-link ∙ simp (le-ltb (length s) (at + 3) (omega arith), ne-eqb at 0 z, sym q ∙ w, g)) (omega arith) (omega arith)
+            link-goes g = step-link ∙ simp (le-ltb (length s) (at + 3) (omega arith), ne-eqb at 0 z, sym q ∙ w, g)
+
+-- the test for a whole link, both ways
+pub link-whole : (s : List ℕ) (at : ℕ) (b : Bool) → b ≡ wholeLink s at → b ≡ true → (3 ≤ length s - at) × (getD s at 0 ≡ 2)
+unfolding wholeLink
+link-whole s at b p q =
+    let e = sym p ∙ q in
+    let x : ltb (length s - at) 3 ≡ false = search bools in
+    let y : eqb (getD s at 0) 2 ≡ true = search bools in
+    (ltb-false (length s - at) 3 x, eqb-true (getD s at 0) 2 y)
+
+pub link-none : (s : List ℕ) (at : ℕ) → wholeLink s at ≡ false → getD s at 0 ≡ 2 → length s - at < 3
+unfolding wholeLink
+link-none s at e q =
+    cases (ltb (length s - at) 3) (λ t. ltb-true (length s - at) 3 t)
+    (λ t. clash (not (ltb (length s - at) 3) && eqb (getD s at 0) 2) (let y = eq-eqb (getD s at 0) 2 q in simp (t, y)) e)
+
+pub whole-short : (s : List ℕ) (at : ℕ) → length s - at < 3 → false ≡ wholeLink s at
+unfolding wholeLink
+whole-short s at h = sym (simp (lt-ltb (length s - at) 3 h))
+
+pub whole-long : (s : List ℕ) (at : ℕ) → 3 ≤ length s - at → eqb (getD s at 0) 2 ≡ wholeLink s at
+unfolding wholeLink
+whole-long s at h = sym (simp (le-ltb (length s - at) 3 h))
+
+-- a command that is neither the end nor the head nor a whole link
+pub step-rest : (s : List ℕ) (at n f : ℕ) (links : Links) → at < length s → wholeLink s at ≡ false → (getD s at 0 ≡ 3 → ⊥) → (getD s at 0 ≡ 1 → ⊥) → stepAt s at n f links ≡ turnedBack 2 at
+step-rest s at n f links h w a b =
+    cases (eqb (getD s at 0) 2)
+    (λ e. let q = eqb-true (getD s at 0) 2 e in link-cut s at n f links h q (link-none s at w q))
+    (λ e. step-unknown s at n f links h a b (eqb-false (getD s at 0) 2 e))
 
 -- what the tests on operands say of them
 pub head-most : (n f : ℕ) (b : Bool) → b ≡ headFits n f → b ≡ true → n ≤ 8
@@ -148,11 +175,11 @@ pub link-to : (n u v : ℕ) (b : Bool) → b ≡ linkFits n u v → b ≡ true �
 unfolding linkFits
 link-to n u v b q w h = let e = sym q ∙ w in let t : ltb v n ≡ true = search bools in let l = ltb-true v n t in omega arith
 
--- the loop's invariant: the lent links are as they were, and the card is read up to `at`
-pub record Turn (s : List ℕ) (lent links : Links) (at n f : ℕ) (marks : Links) : Type 0 where
-  pub same : links ≡ lent
+-- the loop's invariant: the card is read up to `at`
+pub record Turn (s : List ℕ) (at n f : ℕ) (marks : Links) : Type 0 where
   pub most : n ≤ 8
-  pub reading : Reading s at n f marks
+  pub later : 0 < at
+  pub reading : At s at n f marks
 
 -- the two kinds of answers
 pub answered-refused : {s : List ℕ} {lent links : Links} (r : R.Reading) (x : Refused) → readingOf r ≡ turned x → refused x ≡ readCard s → links ≡ lent → Answered s lent r links
@@ -160,3 +187,12 @@ answered-refused {s} {lent} r x e q same = record { reading = e ∙ ap headOf q;
 
 pub answered-network : {s : List ℕ} {lent : Links} (n f : ℕ) (marks : Links) → network n f marks ≡ readCard s → Answered s lent (R.Reading.Network n f) marks
 answered-network {s} {lent} n f marks q = record { reading = ap headOf q; links = ap (λ (a : Network). linksAfter a lent) q }
+
+-- what the head gives: the card's refusal, or the place of the first link
+pub opening-fails : (s : List ℕ) (h : C.Head) (g : CardGround) → h ≡ C.Head.Fails g → Opening s h → length s ≤ 1024 → refused (cardRefusal g) ≡ readCard s
+opening-fails s h g e o k = let step : Opening s (C.Head.Fails g) = rw e at o in reading-answer (reading-starts s k) (refused (cardRefusal g)) (step noLinks)
+
+pub opening-fits : (s : List ℕ) (h : C.Head) (n f : ℕ) → h ≡ C.Head.Fits n f → Opening s h → length s ≤ 1024 → (n ≤ 8) × At s 3 n f noLinks
+opening-fits s h n f e o k =
+    let q : Opened s n f = rw e at o in
+    (head-most n f true (sym (q .fits)) refl, reading-goes (reading-starts s k) 3 n f noLinks (q .step noLinks) (omega arith) (q .room))

@@ -81,6 +81,11 @@ abbrev pub headOf : Network → Head
 headOf (network n f links) = head n f
 headOf (refused r) = turned r
 
+-- the answer again, with the links
+abbrev pub withLinks : Head → Links → Network
+withLinks (head n f) links = network n f links
+withLinks (turned r) links = refused r
+
 -- the links; none for a refused card
 abbrev pub linksOf : Network → Links
 linksOf (network n f links) = links

@@ -1,5 +1,6 @@
 -- Links        the links of a network as rows of marks
 -- Card         what a card's bytes give: the network or the refusal
+-- Places       where the card reader stands
 -- Proper       what holds of the network of every accepted card
 -- Split        the splits of V in their order, and the first bad one
 -- Weak         what makes the split test fast
@@ -7,6 +8,7 @@
 -- Answers      what the code's answers stand for
 pub mod Links
 pub mod Card
+pub mod Places
 pub mod Proper
 pub mod Split
 pub mod Weak

@@ -1,0 +1,30 @@
+use mathlib.Core.Path.{_≡_, refl, sym, ap, _∙_}
+use mathlib.Core.Logic.{_⊎_, inl, inr, ⊎-elim}
+use mathlib.Core.Bool.{Bool, true, false}
+use Prim.Native.Nat.{ℕ, _+_, _-_, _≤_, _<_}
+use native.Mathlib.Omega.{arith}
+use borrow.Author.Needs.{needs}
+use Rattle.network.proofs.Reading.{whole-short, whole-long}
+use Rattle.network.proofs.card.whole_link.Statement.{statement}
+use Rattle.network.proofs.card.whole_link.Tie as tie
+use Rattle.network.proofs.card.whole_link.Reads as reads
+use Rattle.network.proofs.card.whole_link.Lts as lts
+
+-- src/card.rt:96:8
+sub-if1 : tie.Need-sub-if1
+sub-if1 c = search needs
+
+-- src/card.rt:97:9
+returns : tie.Need-returns
+returns c = whole-short _ _ (c .if1 .taken)
+
+-- src/card.rt:99:5
+shared-slice-read-result : tie.Need-shared-slice-read-result
+shared-slice-read-result c = search needs
+
+-- src/card.rt:92:1
+returns-2 : tie.Need-returns-2
+returns-2 c = whole-long _ _ (c .before .if1 .left)
+
+pub whole-link-spec : {M : Type 1} → statement M
+whole-link-spec = tie.close (tie.spec sub-if1 returns shared-slice-read-result returns-2)
