@@ -1,3 +1,4 @@
+-- `agreement::agreement_linked` meets its contract. The links of a refused card are none. Assumes nothing.
 use mathlib.Core.Path.{_≡_, refl, sym, ap, _∙_}
 use mathlib.Core.Logic.{_⊎_, inl, inr, ⊎-elim}
 use mathlib.Core.Bool.{Bool, true, false}
@@ -14,15 +15,12 @@ use Rattle.agreement.proofs.agreement_linked.Lts as lts
 use Rattle.network.proofs.card.read_card.Reads as read-card-reads
 use Rattle.network.proofs.links.linked.Reads as linked-reads
 
--- src/lib.rt:40:9
 read-card-requires : tie.Need-read-card-requires
 read-card-requires c κs = search needs
 
--- src/lib.rt:41:5
 linked-requires : tie.Need-linked-requires
 linked-requires c κs = search needs
 
--- src/lib.rt:35:1
 returns : tie.Need-returns
 unfolding noLinks
 returns c = let a = c .before .before .before .before .args in

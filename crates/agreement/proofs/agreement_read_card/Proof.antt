@@ -1,3 +1,4 @@
+-- `agreement::agreement_read_card` meets its contract. The words are those of the answer that the card reader ensures. Assumes nothing.
 use mathlib.Core.Path.{_≡_, refl, sym, ap, _∙_}
 use mathlib.Core.Logic.{_⊎_, inl, inr, ⊎-elim}
 use mathlib.Core.Bool.{Bool, true, false}
@@ -16,51 +17,39 @@ use Rattle.refusal.proofs.number.Reads as number-reads
 use Rattle.refusal.proofs.place.Reads as place-reads
 use Rattle.refusal.proofs.whose.Reads as whose-reads
 
--- src/lib.rt:20:9
 read-card-requires : tie.Need-read-card-requires
 read-card-requires c κs = search needs
 
--- src/lib.rt:22:28
 enum-known-reading : tie.Need-enum-known-reading
 enum-known-reading c = search needs
 
--- src/lib.rt:23:27
 cast-t13 : tie.Need-cast-t13
 cast-t13 c = search needs
 
--- src/lib.rt:23:37
 cast-t14 : tie.Need-cast-t14
 cast-t14 c = search needs
 
--- src/lib.rt:25:26
 enum-known-reading-2 : tie.Need-enum-known-reading-2
 enum-known-reading-2 c = search needs
 
--- src/lib.rt:26:17
 whose-requires : tie.Need-whose-requires
 whose-requires c κs = search needs
 
--- src/lib.rt:27:17
 number-requires : tie.Need-number-requires
 number-requires c κs = search needs
 
--- src/lib.rt:28:17
 place-requires : tie.Need-place-requires
 place-requires c κs = search needs
 
--- src/lib.rt:29:27
 cast-t15 : tie.Need-cast-t15
 cast-t15 c = search needs
 
--- src/lib.rt:29:41
 cast-t16 : tie.Need-cast-t16
 cast-t16 c = search needs
 
--- src/lib.rt:15:1
 returns : tie.Need-returns
 returns c = ap headWords (sym (ap readingOf (c .before .before .reading .given .1)) ∙ c .before .before .before .before .read-card .ensures .reading)
 
--- src/lib.rt:15:1
 returns-2 : tie.Need-returns-2
 returns-2 c = head-refused _ _ _ _ (c .before .before .before .whose .ensures) (c .before .before .number .ensures) (c .before .place .ensures) _
     (sym (c .before .before .before .before .before .before .before .read-card .ensures .reading) ∙ ap readingOf (c .before .before .before .before .before .reading2 .given .1))

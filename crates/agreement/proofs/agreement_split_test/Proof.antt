@@ -1,3 +1,4 @@
+-- `agreement::agreement_split_test` meets its contract. The words are those of the answer that the split test ensures. Assumes nothing.
 use mathlib.Core.Path.{_≡_, refl, sym, ap, _∙_}
 use mathlib.Core.Logic.{_⊎_, inl, inr, ⊎-elim}
 use mathlib.Core.Bool.{Bool, true, false}
@@ -16,67 +17,51 @@ use Rattle.refusal.proofs.number.Reads as number-reads
 use Rattle.refusal.proofs.place.Reads as place-reads
 use Rattle.refusal.proofs.whose.Reads as whose-reads
 
--- src/lib.rt:48:9
 split-test-requires : tie.Need-split-test-requires
 split-test-requires c κs = search needs
 
--- src/lib.rt:51:13
 enum-told : tie.Need-enum-told
 enum-told c = search needs
 
--- src/lib.rt:53:28
 enum-known-tested : tie.Need-enum-known-tested
 enum-known-tested c = search needs
 
--- src/lib.rt:54:27
 cast-t12 : tie.Need-cast-t12
 cast-t12 c = search needs
 
--- src/lib.rt:54:37
 cast-t13 : tie.Need-cast-t13
 cast-t13 c = search needs
 
--- src/lib.rt:54:47
 cast-t14 : tie.Need-cast-t14
 cast-t14 c = search needs
 
--- src/lib.rt:54:57
 cast-t15 : tie.Need-cast-t15
 cast-t15 c = search needs
 
--- src/lib.rt:56:30
 enum-known-tested-2 : tie.Need-enum-known-tested-2
 enum-known-tested-2 c = search needs
 
--- src/lib.rt:57:17
 whose-requires : tie.Need-whose-requires
 whose-requires c κs = search needs
 
--- src/lib.rt:58:17
 number-requires : tie.Need-number-requires
 number-requires c κs = search needs
 
--- src/lib.rt:59:17
 place-requires : tie.Need-place-requires
 place-requires c κs = search needs
 
--- src/lib.rt:60:27
 cast-t16 : tie.Need-cast-t16
 cast-t16 c = search needs
 
--- src/lib.rt:60:41
 cast-t17 : tie.Need-cast-t17
 cast-t17 c = search needs
 
--- src/lib.rt:44:1
 returns : tie.Need-returns
 returns c = ap splitWords (sym (ap splitAnswerOf (c .before .enum-told .given .1)) ∙ c .before .before .before .split-test .ensures)
 
--- src/lib.rt:44:1
 returns-2 : tie.Need-returns-2
 returns-2 c = ap splitWords (sym (ap splitAnswerOf (c .before .before .tested .given .1)) ∙ c .before .before .before .before .split-test .ensures)
 
--- src/lib.rt:44:1
 returns-3 : tie.Need-returns-3
 returns-3 c = split-refused _ _ _ _ (c .before .before .before .whose .ensures) (c .before .before .number .ensures) (c .before .place .ensures) _
     (sym (c .before .before .before .before .before .before .before .split-test .ensures) ∙ ap splitAnswerOf (c .before .before .before .before .before .tested2 .given .1))

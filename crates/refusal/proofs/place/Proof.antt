@@ -1,3 +1,4 @@
+-- `refusal::place` meets its contract. By cases on the outer enum; a call has place 0. Assumes nothing.
 use mathlib.Core.Path.{ap, _∙_, sym}
 use Rattle.refusal.specs.declared.Refusal.{Refusal}
 use Rattle.refusal.specs.Refused.{refusalOf, placeOf}
@@ -10,35 +11,27 @@ use Rattle.refusal.proofs.place.Lts as lts
 use Rattle.refusal.proofs.card_place.Reads as card-place-reads
 use Rattle.refusal.proofs.plan_place.Reads as plan-place-reads
 
--- src/lib.rt:148:23
 enum-known-r : tie.Need-enum-known-r
 enum-known-r c = search needs
 
--- src/lib.rt:148:29
 card-place-requires : tie.Need-card-place-requires
 card-place-requires c κs = search needs
 
--- src/lib.rt:149:23
 enum-known-r-2 : tie.Need-enum-known-r-2
 enum-known-r-2 c = search needs
 
--- src/lib.rt:149:29
 plan-place-requires : tie.Need-plan-place-requires
 plan-place-requires c κs = search needs
 
--- src/lib.rt:150:29
 enum-told : tie.Need-enum-told
 enum-told c = search needs
 
--- src/lib.rt:144:1
 returns : tie.Need-returns
 returns c = search needs
 
--- src/lib.rt:144:1
 returns-2 : tie.Need-returns-2
 returns-2 c = search needs
 
--- src/lib.rt:144:1
 returns-3 : tie.Need-returns-3
 returns-3 c = call-place (c .enum-told .given .0 .0) ∙ ap (λ (r : Refusal). placeOf (refusalOf r)) (sym (c .enum-told .given .1))
 

@@ -1,3 +1,4 @@
+-- `sets::full` meets its contract. One less than the next power of two. Assumes nothing.
 use native.Mathlib.Omega.{arith}
 use lib.Pow.{pow-pos}
 use Rattle.sets.proofs.Members.{one-shifted, full-is, full-past}
@@ -7,19 +8,15 @@ use Rattle.sets.proofs.full.Tie as tie
 use Rattle.sets.proofs.full.Reads as reads
 use Rattle.sets.proofs.full.Lts as lts
 
--- src/lib.rt:551:21
 shl-above : tie.Need-shl-above
 shl-above c = search needs
 
--- src/lib.rt:552:16
 sub-result : tie.Need-sub-result
 sub-result c = let e = one-shifted _ (c .if1 .taken) in let p = pow-pos (c .before .args .n) in omega arith
 
--- src/lib.rt:552:9
 returns : tie.Need-returns
 returns c = full-is _ (c .if1 .taken)
 
--- src/lib.rt:547:1
 returns-2 : tie.Need-returns-2
 returns-2 c = full-past _ (c .if1 .left)
 

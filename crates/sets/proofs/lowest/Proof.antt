@@ -1,3 +1,4 @@
+-- `sets::lowest` meets its contract. One computed test over the table (`Tables.lowests-are`) gives every set its lowest member. Assumes nothing.
 use Rattle.sets.proofs.Tables.{lowests-are}
 use borrow.Author.Needs.{needs}
 use Rattle.sets.proofs.lowest.Statement.{statement}
@@ -5,11 +6,9 @@ use Rattle.sets.proofs.lowest.Tie as tie
 use Rattle.sets.proofs.lowest.Reads as reads
 use Rattle.sets.proofs.lowest.Lts as lts
 
--- src/lib.rt:91:5
 array-read-result : tie.Need-array-read-result
 array-read-result c = search needs
 
--- src/lib.rt:88:1
 returns : tie.Need-returns
 returns c = lowests-are _ (search needs)
 

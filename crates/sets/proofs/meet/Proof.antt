@@ -1,3 +1,4 @@
+-- `sets::meet` meets its contract. The definition is what the code computes. Assumes nothing.
 use mathlib.Core.Path.{refl}
 use Rattle.sets.specs.Sets.{meet}
 use Rattle.sets.proofs.meet.Statement.{statement}
@@ -5,7 +6,6 @@ use Rattle.sets.proofs.meet.Tie as tie
 use Rattle.sets.proofs.meet.Reads as reads
 use Rattle.sets.proofs.meet.Lts as lts
 
--- src/lib.rt:61:1
 returns : tie.Need-returns
 unfolding meet
 returns c = refl

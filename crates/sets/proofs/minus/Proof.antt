@@ -1,3 +1,4 @@
+-- `sets::minus` meets its contract. The definition is what the code computes. Assumes nothing.
 use mathlib.Core.Path.{refl}
 use Rattle.sets.specs.Sets.{minus}
 use Rattle.sets.proofs.minus.Statement.{statement}
@@ -5,7 +6,6 @@ use Rattle.sets.proofs.minus.Tie as tie
 use Rattle.sets.proofs.minus.Reads as reads
 use Rattle.sets.proofs.minus.Lts as lts
 
--- src/lib.rt:68:1
 returns : tie.Need-returns
 unfolding minus
 returns c = refl

@@ -8,15 +8,12 @@ use Rattle.sets.proofs.next_apart.Tie as tie
 use Rattle.sets.proofs.next_apart.Reads as reads
 use Rattle.sets.proofs.next_apart.Lts as lts
 
--- src/lib.rt:600:18
 cast-after : tie.Need-cast-after
 cast-after c = let small = or-lt 8 (c .args .s) (c .args .busy) (search needs) (search needs) in search needs
 
--- src/lib.rt:600:17
 add-after : tie.Need-add-after
 add-after c = let small = or-lt 8 (c .args .s) (c .args .busy) (search needs) (search needs) in search needs
 
--- src/lib.rt:597:1
 returns : tie.Need-returns
 unfolding next minus union
 returns c = refl

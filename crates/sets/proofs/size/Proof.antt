@@ -1,3 +1,4 @@
+-- `sets::size` meets its contract. One computed test over the table (`Tables.sizes-are`) gives every set its size. Assumes nothing.
 use Rattle.sets.proofs.Tables.{sizes-are}
 use borrow.Author.Needs.{needs}
 use Rattle.sets.proofs.size.Statement.{statement}
@@ -5,11 +6,9 @@ use Rattle.sets.proofs.size.Tie as tie
 use Rattle.sets.proofs.size.Reads as reads
 use Rattle.sets.proofs.size.Lts as lts
 
--- src/lib.rt:84:5
 array-read-result : tie.Need-array-read-result
 array-read-result c = search needs
 
--- src/lib.rt:81:1
 returns : tie.Need-returns
 returns c = sizes-are _ (search needs)
 

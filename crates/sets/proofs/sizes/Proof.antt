@@ -1,3 +1,4 @@
+-- `sets::sizes` meets its contract. The table has 256 entries, each the size of its set (`Tables.sizes-are`). Assumes nothing.
 use mathlib.Core.Path.{refl}
 use Rattle.sets.proofs.Tables.{sizes-are}
 use Rattle.sets.proofs.sizes.Statement.{statement}
@@ -5,7 +6,6 @@ use Rattle.sets.proofs.sizes.Tie as tie
 use Rattle.sets.proofs.sizes.Reads as reads
 use Rattle.sets.proofs.sizes.Lts as lts
 
--- src/lib.rt:584:1
 returns : tie.Need-returns
 returns c = record { long = refl; entry = sizes-are }
 

@@ -1,3 +1,4 @@
+-- `sets::union` meets its contract. The definition is what the code computes. Assumes nothing.
 use mathlib.Core.Path.{refl}
 use Rattle.sets.specs.Sets.{union}
 use Rattle.sets.proofs.union.Statement.{statement}
@@ -5,7 +6,6 @@ use Rattle.sets.proofs.union.Tie as tie
 use Rattle.sets.proofs.union.Reads as reads
 use Rattle.sets.proofs.union.Lts as lts
 
--- src/lib.rt:55:1
 returns : tie.Need-returns
 unfolding union
 returns c = refl

@@ -1,3 +1,4 @@
+-- `sets::within` meets its contract. The definition is what the code computes. Assumes nothing.
 use mathlib.Core.Path.{refl}
 use Rattle.sets.specs.Sets.{within}
 use Rattle.sets.proofs.within.Statement.{statement}
@@ -5,7 +6,6 @@ use Rattle.sets.proofs.within.Tie as tie
 use Rattle.sets.proofs.within.Reads as reads
 use Rattle.sets.proofs.within.Lts as lts
 
--- src/lib.rt:75:1
 returns : tie.Need-returns
 unfolding within
 returns c = refl

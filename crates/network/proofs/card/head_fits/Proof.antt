@@ -1,3 +1,4 @@
+-- `network::card::head_fits` meets its contract. Each test turns one part of the definition. Assumes nothing.
 use borrow.Author.Tests.{lt-ltb, le-ltb, le-leb, lt-leb, eq-eqb, ne-eqb}
 use Rattle.network.specs.Card.{headFits}
 use Rattle.network.proofs.card.head_fits.Statement.{statement}
@@ -5,12 +6,10 @@ use Rattle.network.proofs.card.head_fits.Tie as tie
 use Rattle.network.proofs.card.head_fits.Reads as reads
 use Rattle.network.proofs.card.head_fits.Lts as lts
 
--- src/card.rt:27:9
 returns : tie.Need-returns
 unfolding headFits
 returns c = simp (lt-ltb _ _ (c .if1 .taken))
 
--- src/card.rt:30:9
 returns-2 : tie.Need-returns-2
 unfolding headFits
 returns-2 c = simp (le-ltb _ _ (c .before .if1 .left), lt-ltb _ _ (c .if2 .taken))

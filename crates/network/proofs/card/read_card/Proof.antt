@@ -1,3 +1,5 @@
+-- `network::card::read_card` meets its contract. The head gives the refusal, or the place from which the links are read (`opening-fails`,
+-- `opening-fits`). Assumes nothing.
 use mathlib.Core.Path.{_≡_, refl, sym, ap, _∙_}
 use mathlib.Core.Logic.{_⊎_, inl, inr, ⊎-elim}
 use mathlib.Core.Bool.{Bool, true, false}
@@ -13,39 +15,30 @@ use Rattle.network.proofs.card.read_head.Reads as read-head-reads
 use Rattle.network.proofs.card.read_links.Reads as read-links-reads
 use Rattle.network.proofs.card.refused.Reads as refused-reads
 
--- src/card.rt:133:9
 refused-requires : tie.Need-refused-requires
 refused-requires c κs = search needs
 
--- src/card.rt:133:9
 returns : tie.Need-returns
 returns c = answered-refused _ _ (c .refused .ensures) (reading-long _ (omega arith)) refl
 
--- src/card.rt:135:9
 read-head-requires : tie.Need-read-head-requires
 read-head-requires c κs = search needs
 
--- src/card.rt:137:21
 enum-known-head : tie.Need-enum-known-head
 enum-known-head c = search needs
 
--- src/card.rt:137:32
 refused-requires-2 : tie.Need-refused-requires-2
 refused-requires-2 c κs = search needs
 
--- src/card.rt:138:22
 enum-known-head-2 : tie.Need-enum-known-head-2
 enum-known-head-2 c = search needs
 
--- src/card.rt:138:32
 read-links-requires : tie.Need-read-links-requires
 read-links-requires c κs = opening-fits _ _ _ _ (c .before .before .head2 .given .1) (c .before .before .before .before .read-head .ensures) (c .before .before .before .before .before .if1 .left)
 
--- src/card.rt:129:1
 returns-2 : tie.Need-returns-2
 returns-2 c = answered-refused _ _ (c .refused2 .ensures) (opening-fails _ _ _ (c .before .before .head .given .1) (c .before .before .before .before .read-head .ensures) (c .before .before .before .before .before .if1 .left)) refl
 
--- src/card.rt:129:1
 returns-3 : tie.Need-returns-3
 returns-3 c = search needs
 

@@ -1,3 +1,4 @@
+-- `network::card::read_end` meets its contract. Each answer is the step at `at`, by what stands there (`Reading`). Assumes nothing.
 use mathlib.Core.Path.{_≡_, refl, sym, ap, _∙_}
 use mathlib.Core.Logic.{_⊎_, inl, inr, ⊎-elim}
 use mathlib.Core.Bool.{Bool, true, false}
@@ -12,59 +13,45 @@ use Rattle.network.proofs.card.read_end.Reads as reads
 use Rattle.network.proofs.card.read_end.Lts as lts
 use Rattle.network.proofs.card.refused.Reads as refused-reads
 
--- src/card.rt:108:9
 refused-requires : tie.Need-refused-requires
 refused-requires c κs = search needs
 
--- src/card.rt:108:9
 returns : tie.Need-returns
 returns c = λ l. step-none (c .before .before .before .args .card .now) (c .before .before .before .args .at) (c .before .before .before .args .n) (c .before .before .before .args .f) l (c .before .if1 .taken) ∙ ap (λ (h : Head). done (withLinks h l)) (sym (c .refused .ensures))
 
--- src/card.rt:110:19
 shared-slice-read-command : tie.Need-shared-slice-read-command
 shared-slice-read-command c = search needs
 
--- src/card.rt:112:21
 add-after : tie.Need-add-after
 add-after c = search needs
 
--- src/card.rt:114:13
 refused-requires-2 : tie.Need-refused-requires-2
 refused-requires-2 c κs = search needs
 
--- src/card.rt:114:13
 returns-2 : tie.Need-returns-2
 returns-2 c = λ l. end-trailing (c .before .before .before .before .before .before .args .card .now) (c .before .before .before .before .before .before .args .at) (c .before .before .before .before .before .before .args .n) (c .before .before .before .before .before .before .args .f) l (c .before .before .before .before .if1 .left) (c .before .before .if2 .taken) (omega arith) (c .before .if3 .taken) ∙ ap (λ (h : Head). done (withLinks h l)) (sym (c .refused2 .ensures))
 
--- src/card.rt:116:9
 returns-3 : tie.Need-returns-3
 returns-3 c = λ l. end-read (c .before .before .before .before .before .args .card .now) (c .before .before .before .before .before .args .at) (c .before .before .before .before .before .args .n) (c .before .before .before .before .before .args .f) l (c .before .before .before .if1 .left) (c .before .if2 .taken) (omega arith) (c .if3 .left)
 
--- src/card.rt:119:12
 sub-if5 : tie.Need-sub-if5
 sub-if5 c = search needs
 
--- src/card.rt:120:13
 refused-requires-3 : tie.Need-refused-requires-3
 refused-requires-3 c κs = search needs
 
--- src/card.rt:120:13
 returns-4 : tie.Need-returns-4
 returns-4 c = λ l. head-cut (c .before .before .before .before .before .before .before .args .card .now) (c .before .before .before .before .before .before .before .args .at) (c .before .before .before .before .before .before .before .args .n) (c .before .before .before .before .before .before .before .args .f) l (c .before .before .before .before .before .if1 .left) (c .before .before .if4 .taken) (c .before .if5 .taken) ∙ ap (λ (h : Head). done (withLinks h l)) (sym (c .refused3 .ensures))
 
--- src/card.rt:122:9
 refused-requires-4 : tie.Need-refused-requires-4
 refused-requires-4 c κs = search needs
 
--- src/card.rt:122:9
 returns-5 : tie.Need-returns-5
 returns-5 c = λ l. head-again (c .before .before .before .before .before .before .before .args .card .now) (c .before .before .before .before .before .before .before .args .at) (c .before .before .before .before .before .before .before .args .n) (c .before .before .before .before .before .before .before .args .f) l (c .before .before .before .before .before .if1 .left) (c .before .before .if4 .taken) (c .before .if5 .left) (omega arith) ∙ ap (λ (h : Head). done (withLinks h l)) (sym (c .refused4 .ensures))
 
--- src/card.rt:124:5
 refused-requires-5 : tie.Need-refused-requires-5
 refused-requires-5 c κs = search needs
 
--- src/card.rt:103:1
 returns-6 : tie.Need-returns-6
 returns-6 c = λ l. step-rest (c .before .before .before .before .before .before .args .card .now) (c .before .before .before .before .before .before .args .at) (c .before .before .before .before .before .before .args .n) (c .before .before .before .before .before .before .args .f) l (c .before .before .before .before .if1 .left) (c .before .before .before .before .before .before .pre .2) (c .before .before .if2 .left) (c .before .if4 .left) ∙ ap (λ (h : Head). done (withLinks h l)) (sym (c .refused5 .ensures))
 

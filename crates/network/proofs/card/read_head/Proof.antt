@@ -1,3 +1,4 @@
+-- `network::card::read_head` meets its contract. Each answer is the step at place 0, by what stands there (`Reading`). Assumes nothing.
 use mathlib.Core.Path.{_≡_, refl, sym, ap, _∙_}
 use mathlib.Core.Logic.{_⊎_, inl, inr, ⊎-elim}
 use mathlib.Core.Bool.{Bool, true, false}
@@ -11,51 +12,39 @@ use Rattle.network.proofs.card.read_head.Reads as reads
 use Rattle.network.proofs.card.read_head.Lts as lts
 use Rattle.network.proofs.card.head_fits.Reads as head-fits-reads
 
--- src/card.rt:65:9
 returns : tie.Need-returns
 returns c = λ l. step-none (c .before .before .args .card .now) 0 0 0 l (omega arith)
 
--- src/card.rt:67:19
 shared-slice-read-command : tie.Need-shared-slice-read-command
 shared-slice-read-command c = search needs
 
--- src/card.rt:69:9
 returns-2 : tie.Need-returns-2
 returns-2 c = λ l. end-first (c .before .before .before .before .args .card .now) 0 0 0 l (omega arith) (c .if2 .taken) refl
 
--- src/card.rt:73:13
 returns-3 : tie.Need-returns-3
 returns-3 c = λ l. head-cut (c .before .before .before .before .before .before .args .card .now) 0 0 0 l (omega arith) (c .before .if3 .taken) (omega arith)
 
--- src/card.rt:75:17
 shared-slice-read-n : tie.Need-shared-slice-read-n
 shared-slice-read-n c = search needs
 
--- src/card.rt:76:17
 shared-slice-read-f : tie.Need-shared-slice-read-f
 shared-slice-read-f c = search needs
 
--- src/card.rt:77:12
 head-fits-requires : tie.Need-head-fits-requires
 head-fits-requires c κs = search needs
 
--- src/card.rt:78:13
 returns-4 : tie.Need-returns-4
 returns-4 c = record { room = omega arith; fits = sym (c .before .head-fits .ensures) ∙ c .if5 .taken; step = λ l. head-goes (c .before .before .before .before .before .before .before .before .before .before .args .card .now) 0 0 0 l (omega arith) (c .before .before .before .before .before .if3 .taken) (omega arith) refl _ (c .before .head-fits .ensures) (c .if5 .taken) }
 
--- src/card.rt:80:9
 returns-5 : tie.Need-returns-5
 returns-5 c = λ l. head-range (c .before .before .before .before .before .before .before .before .before .before .args .card .now) 0 0 0 l (omega arith) (c .before .before .before .before .before .if3 .taken) (omega arith) refl _ (c .before .head-fits .ensures) (c .if5 .left)
 
--- src/card.rt:84:13
 returns-6 : tie.Need-returns-6
 returns-6 c = λ l. link-cut (c .before .before .before .before .before .before .before .args .card .now) 0 0 0 l (omega arith) (c .before .if6 .taken) (omega arith)
 
--- src/card.rt:86:9
 returns-7 : tie.Need-returns-7
 returns-7 c = λ l. link-first (c .before .before .before .before .before .before .before .args .card .now) 0 0 0 l (omega arith) (c .before .if6 .taken) (omega arith) refl
 
--- src/card.rt:61:1
 returns-8 : tie.Need-returns-8
 returns-8 c = λ l. step-unknown (c .before .before .before .before .before .before .args .card .now) 0 0 0 l (omega arith) (c .before .before .if2 .left) (c .before .if3 .left) (c .if6 .left)
 

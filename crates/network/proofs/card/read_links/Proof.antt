@@ -1,3 +1,5 @@
+-- `network::card::read_links` meets its contract. The invariant of its loop, `Turn`: what is left to read from `at` on gives the answer of the whole
+-- card. The measure is what is left of the card. Assumes nothing.
 use mathlib.Core.Path.{_≡_, refl, sym, ap, _∙_}
 use mathlib.Core.Logic.{_⊎_, inl, inr, ⊎-elim}
 use mathlib.Core.Bool.{Bool, true, false}
@@ -25,114 +27,87 @@ Inv-loop card n f links at₀ marks₀ at marks = Turn card at n f marks
 abbrev μ-loop : tie.MeasureT-loop
 μ-loop card n f links at₀ marks₀ at marks = length card - at
 
--- src/card.rt:149:5
 loop-holds : tie.Need-loop-holds Inv-loop μ-loop
 unfolding noLinks
 loop-holds c = record { most = c .before .pre .0; later = omega arith; reading = c .before .pre .1 }
 
--- src/card.rt:149:11
 whole-link-requires : tie.Need-whole-link-requires Inv-loop μ-loop
 whole-link-requires c κs = c .loop .inv .reading .inside
 
--- src/card.rt:150:22
 add-u : tie.Need-add-u Inv-loop μ-loop
 add-u c = search needs
 
--- src/card.rt:150:17
 shared-slice-read-u : tie.Need-shared-slice-read-u Inv-loop μ-loop
 shared-slice-read-u c = let w = link-whole (c .before .before .before .before .before .args .card .now) (c .before .before .before .loop .at) _ (c .before .before .whole-link .ensures) (c .before .if1 .taken) in omega arith
 
--- src/card.rt:151:22
 add-v : tie.Need-add-v Inv-loop μ-loop
 add-v c = search needs
 
--- src/card.rt:151:17
 shared-slice-read-v : tie.Need-shared-slice-read-v Inv-loop μ-loop
 shared-slice-read-v c = let w = link-whole (c .before .before .before .before .before .before .args .card .now) (c .before .before .before .before .loop .at) _ (c .before .before .before .whole-link .ensures) (c .before .before .if1 .taken) in omega arith
 
--- src/card.rt:152:12
 link-fits-requires : tie.Need-link-fits-requires Inv-loop μ-loop
 link-fits-requires c κs = search needs
 
--- src/card.rt:153:23
 cast-row : tie.Need-cast-row Inv-loop μ-loop
 cast-row c = let h = link-from _ _ _ _ (c .before .link-fits .ensures) (c .if2 .taken) (c .before .before .before .before .before .before .loop .inv .most) in omega arith
 
--- src/card.rt:154:24
 cast-mark : tie.Need-cast-mark Inv-loop μ-loop
 cast-mark c = let h = link-to _ _ _ _ (c .before .link-fits .ensures) (c .if2 .taken) (c .before .before .before .before .before .before .loop .inv .most) in omega arith
 
--- src/card.rt:155:16
 mul-if3 : tie.Need-mul-if3 Inv-loop μ-loop
 mul-if3 c = let h = link-from _ _ _ _ (c .before .link-fits .ensures) (c .if2 .taken) (c .before .before .before .before .before .before .loop .inv .most) in omega arith
 
--- src/card.rt:155:16
 index-1-if3 : tie.Need-index-1-if3 Inv-loop μ-loop
 index-1-if3 c = let h = link-from _ _ _ _ (c .before .link-fits .ensures) (c .if2 .taken) (c .before .before .before .before .before .before .loop .inv .most) in search needs
 
--- src/card.rt:155:16
 index-2-if3 : tie.Need-index-2-if3 Inv-loop μ-loop
 index-2-if3 c = let h = link-to _ _ _ _ (c .before .link-fits .ensures) (c .if2 .taken) (c .before .before .before .before .before .before .loop .inv .most) in search needs
 
--- src/card.rt:156:17
 refused-requires : tie.Need-refused-requires Inv-loop μ-loop
 refused-requires c κs = search needs
 
--- src/card.rt:156:17
 returns : tie.Need-returns Inv-loop μ-loop
 returns c = answered-refused _ _ (c .refused .ensures) (reading-answer (c .before .before .before .before .before .before .before .before .before .loop .inv .reading) _ (let w = link-whole (c .before .before .before .before .before .before .before .before .before .before .before .args .card .now) (c .before .before .before .before .before .before .before .before .before .loop .at) _ (c .before .before .before .before .before .before .before .before .whole-link .ensures) (c .before .before .before .before .before .before .before .if1 .taken) in let z = c .before .before .before .before .before .before .before .before .before .loop .inv .later in link-repeated (c .before .before .before .before .before .before .before .before .before .before .before .args .card .now) (c .before .before .before .before .before .before .before .before .before .loop .at) (c .before .before .before .before .before .before .before .before .before .before .before .args .n) (c .before .before .before .before .before .before .before .before .before .before .before .args .f) (c .before .before .before .before .before .before .before .before .before .loop .marks) (omega arith) (w .1) (w .0) (omega arith) _ (c .before .before .before .before .link-fits .ensures) (c .before .before .before .if2 .taken) (c .before .if3 .taken))) refl
 
--- src/card.rt:158:13
 mul-marks : tie.Need-mul-marks Inv-loop μ-loop
 mul-marks c = let h = link-from _ _ _ _ (c .before .before .before .link-fits .ensures) (c .before .before .if2 .taken) (c .before .before .before .before .before .before .before .before .loop .inv .most) in omega arith
 
--- src/card.rt:158:13
 index-1-marks : tie.Need-index-1-marks Inv-loop μ-loop
 index-1-marks c = let h = link-from _ _ _ _ (c .before .before .before .link-fits .ensures) (c .before .before .if2 .taken) (c .before .before .before .before .before .before .before .before .loop .inv .most) in search needs
 
--- src/card.rt:158:13
 index-2-marks : tie.Need-index-2-marks Inv-loop μ-loop
 index-2-marks c = let h = link-to _ _ _ _ (c .before .before .before .link-fits .ensures) (c .before .before .if2 .taken) (c .before .before .before .before .before .before .before .before .loop .inv .most) in search needs
 
--- src/card.rt:159:18
 add-at : tie.Need-add-at Inv-loop μ-loop
 add-at c = search needs
 
--- src/card.rt:149:5
 loop-less : tie.Need-loop-less Inv-loop μ-loop
 loop-less c = let w = link-whole (c .before .before .before .before .before .before .before .before .before .before .args .card .now) (c .before .before .before .before .before .before .before .before .loop .at) _ (c .before .before .before .before .before .before .before .whole-link .ensures) (c .before .before .before .before .before .before .if1 .taken) in omega arith
 
--- src/card.rt:149:5
 loop-again : tie.Need-loop-again Inv-loop μ-loop
 loop-again c = let w = link-whole (c .before .before .before .before .before .before .before .before .before .before .args .card .now) (c .before .before .before .before .before .before .before .before .loop .at) _ (c .before .before .before .before .before .before .before .whole-link .ensures) (c .before .before .before .before .before .before .if1 .taken) in record { most = c .before .before .before .before .before .before .before .before .loop .inv .most; later = omega arith; reading = reading-goes (c .before .before .before .before .before .before .before .before .loop .inv .reading) _ _ _ _ (let w = link-whole (c .before .before .before .before .before .before .before .before .before .before .args .card .now) (c .before .before .before .before .before .before .before .before .loop .at) _ (c .before .before .before .before .before .before .before .whole-link .ensures) (c .before .before .before .before .before .before .if1 .taken) in let z = c .before .before .before .before .before .before .before .before .loop .inv .later in link-goes (c .before .before .before .before .before .before .before .before .before .before .args .card .now) (c .before .before .before .before .before .before .before .before .loop .at) (c .before .before .before .before .before .before .before .before .before .before .args .n) (c .before .before .before .before .before .before .before .before .before .before .args .f) (c .before .before .before .before .before .before .before .before .loop .marks) (omega arith) (w .1) (w .0) (omega arith) _ (c .before .before .before .link-fits .ensures) (c .before .before .if2 .taken) (c .if3 .left)) (omega arith) (omega arith) }
 
--- src/card.rt:161:13
 refused-requires-2 : tie.Need-refused-requires-2 Inv-loop μ-loop
 refused-requires-2 c κs = search needs
 
--- src/card.rt:161:13
 returns-2 : tie.Need-returns-2 Inv-loop μ-loop
 returns-2 c = answered-refused _ _ (c .refused2 .ensures) (reading-answer (c .before .before .before .before .before .before .before .loop .inv .reading) _ (let w = link-whole (c .before .before .before .before .before .before .before .before .before .args .card .now) (c .before .before .before .before .before .before .before .loop .at) _ (c .before .before .before .before .before .before .whole-link .ensures) (c .before .before .before .before .before .if1 .taken) in let z = c .before .before .before .before .before .before .before .loop .inv .later in link-range (c .before .before .before .before .before .before .before .before .before .args .card .now) (c .before .before .before .before .before .before .before .loop .at) (c .before .before .before .before .before .before .before .before .before .args .n) (c .before .before .before .before .before .before .before .before .before .args .f) (c .before .before .before .before .before .before .before .loop .marks) (omega arith) (w .1) (w .0) (omega arith) _ (c .before .before .link-fits .ensures) (c .before .if2 .left))) refl
 
--- src/card.rt:164:9
 read-end-requires : tie.Need-read-end-requires Inv-loop μ-loop
 read-end-requires c κs = (c .before .before .loop .inv .reading .inside, c .before .before .loop .inv .later, sym (c .before .whole-link .ensures) ∙ c .if1 .left)
 
--- src/card.rt:166:26
 enum-known-reading : tie.Need-enum-known-reading Inv-loop μ-loop
 enum-known-reading c = search needs
 
--- src/card.rt:167:31
 enum-known-reading-2 : tie.Need-enum-known-reading-2 Inv-loop μ-loop
 enum-known-reading-2 c = search needs
 
--- src/card.rt:143:1
 returns-3 : tie.Need-returns-3 Inv-loop μ-loop
 returns-3 c = let l = c .before .before .before .before .before .before .loop in
     let e = c .before .reading .given .1 in
     answered-refused _ _ refl (ap (λ (r : R.Reading). withLinks (readingOf r) (l .marks)) (sym e) ∙ reading-answer (l .inv .reading) _ (c .before .before .before .read-end .ensures (l .marks))) refl
 
--- src/card.rt:143:1
 returns-4 : tie.Need-returns-4 Inv-loop μ-loop
 returns-4 c = let l = c .before .before .before .before .before .before .loop in
     let e = c .before .reading2 .given .1 in

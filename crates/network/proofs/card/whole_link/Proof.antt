@@ -1,3 +1,4 @@
+-- `network::card::whole_link` meets its contract. Each test turns one part of the definition. Assumes nothing.
 use mathlib.Core.Path.{_≡_, refl, sym, ap, _∙_}
 use mathlib.Core.Logic.{_⊎_, inl, inr, ⊎-elim}
 use mathlib.Core.Bool.{Bool, true, false}
@@ -10,19 +11,15 @@ use Rattle.network.proofs.card.whole_link.Tie as tie
 use Rattle.network.proofs.card.whole_link.Reads as reads
 use Rattle.network.proofs.card.whole_link.Lts as lts
 
--- src/card.rt:96:8
 sub-if1 : tie.Need-sub-if1
 sub-if1 c = search needs
 
--- src/card.rt:97:9
 returns : tie.Need-returns
 returns c = whole-short _ _ (c .if1 .taken)
 
--- src/card.rt:99:5
 shared-slice-read-result : tie.Need-shared-slice-read-result
 shared-slice-read-result c = search needs
 
--- src/card.rt:92:1
 returns-2 : tie.Need-returns-2
 returns-2 c = whole-long _ _ (c .before .if1 .left)
 

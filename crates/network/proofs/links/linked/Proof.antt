@@ -1,3 +1,4 @@
+-- `network::links::linked` meets its contract. In range the mark itself; past a row or past the rows there is none (`Marks`). Assumes nothing.
 use Rattle.network.specs.Links.{linkedIn}
 use Rattle.network.proofs.Marks.{linked-past-row, linked-past-rows}
 use Rattle.facts.proofs.Rows.{row-long}
@@ -9,28 +10,22 @@ use Rattle.network.proofs.links.linked.Tie as tie
 use Rattle.network.proofs.links.linked.Reads as reads
 use Rattle.network.proofs.links.linked.Lts as lts
 
--- src/links.rt:14:20
 mul-result : tie.Need-mul-result
 mul-result c = search needs
 
--- src/links.rt:14:20
 index-1-result : tie.Need-index-1-result
 index-1-result c = search needs
 
--- src/links.rt:14:20
 index-2-result : tie.Need-index-2-result
 index-2-result c = search needs
 
--- src/links.rt:14:13
 returns : tie.Need-returns
 unfolding linkedIn
 returns c = refl
 
--- src/links.rt:7:1
 returns-2 : tie.Need-returns-2
 returns-2 c = let g = c .before .before .good .0 in sym (linked-past-row _ _ _ (row-long _ _ 8 (c .before .before .args .t1) (g .0) (c .before .before .args .u) (g .1 .1) (omega arith)) (c .if2 .left))
 
--- src/links.rt:7:1
 returns-3 : tie.Need-returns-3
 returns-3 c = sym (linked-past-rows _ _ _ (c .before .good .0 .1 .0 .1) (c .if1 .left))
 

@@ -1,3 +1,5 @@
+-- `network::split::first_bad` meets its contract. The invariants of its three scans, `Scan`, `Sides` and `Splits`, say that what is left to scan
+-- gives the answer of the whole; the measures are what is left of the 2^n sets. Assumes nothing.
 use mathlib.Core.Path.{_≡_, refl, sym, ap, _∙_}
 use mathlib.Core.Logic.{_⊎_, inl, inr, ⊎-elim}
 use mathlib.Core.Bool.{Bool, true, false}
@@ -40,135 +42,106 @@ Inv-scan n f lower upper sizes servers limit found₀ i₀ found i = (found ≡ 
 abbrev μ-scan : tie.MeasureT-scan
 μ-scan n f lower upper sizes servers limit found₀ i₀ found i = limit - i
 
--- src/split.rt:109:9
 source-rows-requires :
     tie.Need-source-rows-requires Inv-loop2 μ-loop2 Inv-loop μ-loop Inv-scan μ-scan
 source-rows-requires c κs = search needs
 
--- src/split.rt:110:17
 half-table-requires :
     tie.Need-half-table-requires Inv-loop2 μ-loop2 Inv-loop μ-loop Inv-scan μ-scan
 half-table-requires c κs = search needs
 
--- src/split.rt:111:17
 half-table-requires-2 :
     tie.Need-half-table-requires-2 Inv-loop2 μ-loop2 Inv-loop μ-loop Inv-scan μ-scan
 half-table-requires-2 c κs = search needs
 
--- src/split.rt:112:17
 sizes-requires : tie.Need-sizes-requires Inv-loop2 μ-loop2 Inv-loop μ-loop Inv-scan μ-scan
 sizes-requires c κs = search needs
 
--- src/split.rt:113:9
 full-requires : tie.Need-full-requires Inv-loop2 μ-loop2 Inv-loop μ-loop Inv-scan μ-scan
 full-requires c κs = search needs
 
--- src/split.rt:114:18
 cast-limit : tie.Need-cast-limit Inv-loop2 μ-loop2 Inv-loop μ-loop Inv-scan μ-scan
 cast-limit c = search needs
 
--- src/split.rt:114:17
 add-limit : tie.Need-add-limit Inv-loop2 μ-loop2 Inv-loop μ-loop Inv-scan μ-scan
 add-limit c = search needs
 
--- src/split.rt:116:5
 scan-holds : tie.Need-scan-holds Inv-loop2 μ-loop2 Inv-loop μ-loop Inv-scan μ-scan
 scan-holds c = (refl, scan-starts _ _ _ _ _ _ (c .before .before .before .before .before .pre .most) (limit-of _ _ (c .before .before .before .before .before .pre .most) (c .full .ensures)))
 
--- src/split.rt:117:21
 cast-fault : tie.Need-cast-fault Inv-loop2 μ-loop2 Inv-loop μ-loop Inv-scan μ-scan
 cast-fault c = search needs
 
--- src/split.rt:118:18
 cast-at : tie.Need-cast-at Inv-loop2 μ-loop2 Inv-loop μ-loop Inv-scan μ-scan
 cast-at c = search needs
 
--- src/split.rt:119:12
 array-read-if1 : tie.Need-array-read-if1 Inv-loop2 μ-loop2 Inv-loop μ-loop Inv-scan μ-scan
 array-read-if1 c = search needs
 
--- src/split.rt:120:17
 next-apart-requires :
     tie.Need-next-apart-requires Inv-loop2 μ-loop2 Inv-loop μ-loop Inv-scan μ-scan
 next-apart-requires c κs = search needs
 
--- src/split.rt:121:13
 loop-holds : tie.Need-loop-holds Inv-loop2 μ-loop2 Inv-loop μ-loop Inv-scan μ-scan
 loop-holds c = let l = c .before .before .before .scan in (
   l .inv .0,
   sides-start _ _ _ _ _ _ _ (l .inv .1) (c .before .before .scan-test .taken) _ (c .before .before .before .before .before .sizes .ensures .entry (l .i) (search needs)) (c .before .if1 .taken) _ (c .next-apart .ensures),
 )
 
--- src/split.rt:122:28
 cast-left : tie.Need-cast-left Inv-loop2 μ-loop2 Inv-loop μ-loop Inv-scan μ-scan
 cast-left c = search needs
 
--- src/split.rt:123:20
 is-weak-requires : tie.Need-is-weak-requires Inv-loop2 μ-loop2 Inv-loop μ-loop Inv-scan μ-scan
 is-weak-requires c κs = search needs
 
--- src/split.rt:124:25
 union-requires : tie.Need-union-requires Inv-loop2 μ-loop2 Inv-loop μ-loop Inv-scan μ-scan
 union-requires c κs = search needs
 
--- src/split.rt:125:25
 next-apart-requires-2 :
     tie.Need-next-apart-requires-2 Inv-loop2 μ-loop2 Inv-loop μ-loop Inv-scan μ-scan
 next-apart-requires-2 c κs = search needs
 
--- src/split.rt:126:21
 loop2-holds : tie.Need-loop2-holds Inv-loop2 μ-loop2 Inv-loop μ-loop Inv-scan μ-scan
 loop2-holds c = let l = c .before .before .before .before .before .before .before .before .loop in (
   l .inv .0,
   splits-start _ _ _ _ _ _ _ _ (l .inv .1) (c .before .before .before .before .before .before .before .loop-test .taken) _ (c .before .before .before .is-weak .ensures) (c .before .before .if2 .taken) _ _ (c .before .union .ensures) (c .next-apart2 .ensures),
 )
 
--- src/split.rt:127:37
 cast-right : tie.Need-cast-right Inv-loop2 μ-loop2 Inv-loop μ-loop Inv-scan μ-scan
 cast-right c = search needs
 
--- src/split.rt:128:28
 is-weak-requires-2 : tie.Need-is-weak-requires-2 Inv-loop2 μ-loop2 Inv-loop μ-loop Inv-scan μ-scan
 is-weak-requires-2 c κs = search needs
 
--- src/split.rt:129:33
 minus-requires : tie.Need-minus-requires Inv-loop2 μ-loop2 Inv-loop μ-loop Inv-scan μ-scan
 minus-requires c κs = search needs
 
--- src/split.rt:130:33
 union-requires-2 : tie.Need-union-requires-2 Inv-loop2 μ-loop2 Inv-loop μ-loop Inv-scan μ-scan
 union-requires-2 c κs = search needs
 
--- src/split.rt:131:33
 minus-requires-2 : tie.Need-minus-requires-2 Inv-loop2 μ-loop2 Inv-loop μ-loop Inv-scan μ-scan
 minus-requires-2 c κs = search needs
 
--- src/split.rt:140:25
 next-apart-requires-3 :
     tie.Need-next-apart-requires-3 Inv-loop2 μ-loop2 Inv-loop μ-loop Inv-scan μ-scan
 next-apart-requires-3 c κs = search needs
 
--- src/split.rt:126:21
 loop2-less : tie.Need-loop2-less Inv-loop2 μ-loop2 Inv-loop μ-loop Inv-scan μ-scan
 loop2-less c = splits-fall _ _ _ _ _ _ _ _ _ _ _ (c .before .before .before .before .before .before .before .loop2 .inv .1) (c .before .before .before .before .before .before .loop2-test .taken) (c .before .before .before .before .before .before .before .before .before .union .ensures) (c .next-apart3 .ensures)
 
--- src/split.rt:126:21
 loop2-again : tie.Need-loop2-again Inv-loop2 μ-loop2 Inv-loop μ-loop Inv-scan μ-scan
 loop2-again c = let l = c .before .before .before .before .before .before .before .loop2 in (
   l .inv .0,
   splits-past _ _ _ _ _ _ _ _ _ (l .inv .1) (c .before .before .before .before .before .before .loop2-test .taken) _ (c .before .before .is-weak2 .ensures) (c .before .if3 .left) _ _ (c .before .before .before .before .before .before .before .before .before .union .ensures) (c .next-apart3 .ensures),
 )
 
--- src/split.rt:143:17
 next-apart-requires-4 :
     tie.Need-next-apart-requires-4 Inv-loop2 μ-loop2 Inv-loop μ-loop Inv-scan μ-scan
 next-apart-requires-4 c κs = search needs
 
--- src/split.rt:121:13
 loop-less : tie.Need-loop-less Inv-loop2 μ-loop2 Inv-loop μ-loop Inv-scan μ-scan
 loop-less c = sides-fall _ _ _ _ _ _ _ _ _ (c .before .before .before .before .before .before .before .loop .inv .1) (c .before .before .before .before .before .before .loop-test .taken) (c .next-apart4 .ensures)
 
--- src/split.rt:121:13
 loop-again : tie.Need-loop-again Inv-loop2 μ-loop2 Inv-loop μ-loop Inv-scan μ-scan
 loop-again c = let l = c .before .before .before .before .before .before .before .loop in
     ⊎-elim
@@ -176,15 +149,12 @@ loop-again c = let l = c .before .before .before .before .before .before .before
     (λ w. (w .1 ∙ l .inv .0, sides-past _ _ _ _ _ _ _ _ (l .inv .1) (c .before .before .before .before .before .before .loop-test .taken) _ (c .before .before .is-weak .ensures) (w .0 .left) _ (c .next-apart4 .ensures)))
     (c .before .if2 .came)
 
--- src/split.rt:116:16
 add-i : tie.Need-add-i Inv-loop2 μ-loop2 Inv-loop μ-loop Inv-scan μ-scan
 add-i c = search needs
 
--- src/split.rt:116:5
 scan-less : tie.Need-scan-less Inv-loop2 μ-loop2 Inv-loop μ-loop Inv-scan μ-scan
 scan-less c = search needs
 
--- src/split.rt:116:5
 scan-again : tie.Need-scan-again Inv-loop2 μ-loop2 Inv-loop μ-loop Inv-scan μ-scan
 scan-again c = let l = c .before .before .scan in
     ⊎-elim
@@ -205,13 +175,11 @@ tables c =
       high = c .before .before .half-table2 .ensures;
     }
 
--- src/split.rt:105:1
 returns : tie.Need-returns Inv-loop2 μ-loop2 Inv-loop μ-loop Inv-scan μ-scan
 returns c = ap splitAnswerOf (c .before .scan .inv .0)
     ∙ scan-ends _ _ _ _ _ _ _ (c .before .scan .inv .1) (c .scan-test .left) _
     (tables (c .before .before))
 
--- src/split.rt:105:1
 returns-2 : tie.Need-returns-2 Inv-loop2 μ-loop2 Inv-loop μ-loop Inv-scan μ-scan
 returns-2 c = splits-hit _ _ _ _ _ _ _ _ _ (c .before .before .before .before .before .before .before .before .before .loop2 .inv .1) (c .before .before .before .before .before .before .before .before .loop2-test .taken) _ (c .before .before .before .before .is-weak2 .ensures) (c .before .before .before .if3 .taken)
     _ _ _ _ (c .before .before .before .before .before .before .before .before .before .before .before .before .before .before .before .before .before .before .before .before .before .before .before .full .ensures) (c .before .before .minus .ensures) (c .before .union2 .ensures) (c .minus2 .ensures) _

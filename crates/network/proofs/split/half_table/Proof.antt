@@ -1,3 +1,5 @@
+-- `network::split::half_table` meets its contract. The invariant of its loop, `Halving`: the entries below x are made. The measure is what is left of
+-- the sixteen. Assumes nothing.
 use mathlib.Core.Path.{_≡_, refl, sym, ap, _∙_}
 use mathlib.Core.Logic.{_⊎_, inl, inr, ⊎-elim}
 use mathlib.Core.Bool.{Bool, true, false}
@@ -17,35 +19,27 @@ Inv-loop rows first table₀ x₀ table x = Halving rows first x table
 abbrev μ-loop : tie.MeasureT-loop
 μ-loop rows first table₀ x₀ table x = 16 - x
 
--- src/split.rt:81:5
 loop-holds : tie.Need-loop-holds Inv-loop μ-loop
 loop-holds c = half-starts _ _ _ refl
 
--- src/split.rt:82:17
 cast-s : tie.Need-cast-s Inv-loop μ-loop
 cast-s c = search needs
 
--- src/split.rt:83:13
 into-half-requires : tie.Need-into-half-requires Inv-loop μ-loop
 into-half-requires c κs = search needs
 
--- src/split.rt:84:9
 array-write-table : tie.Need-array-write-table Inv-loop μ-loop
 array-write-table c = search needs
 
--- src/split.rt:81:9
 add-x : tie.Need-add-x Inv-loop μ-loop
 add-x c = search needs
 
--- src/split.rt:81:5
 loop-less : tie.Need-loop-less Inv-loop μ-loop
 loop-less c = search needs
 
--- src/split.rt:81:5
 loop-again : tie.Need-loop-again Inv-loop μ-loop
 loop-again c = half-turn _ _ _ _ (c .before .before .loop .inv) (omega arith) _ (c .into-half .ensures)
 
--- src/split.rt:76:1
 returns : tie.Need-returns Inv-loop μ-loop
 returns c = let e : c .before .loop .x ≡ 16 = let i = c .before .loop .inv .inside in omega arith in let h = rw e at (c .before .loop .inv) in h .made
 

@@ -1,3 +1,4 @@
+-- `network::split::into_half` meets its contract. The union of four rows, each kept or not (`joined-four`). Assumes nothing.
 use mathlib.Core.Path.{_≡_, refl, sym, ap, _∙_}
 use mathlib.Core.Logic.{_⊎_, inl, inr, ⊎-elim}
 use mathlib.Core.Bool.{Bool, true, false}
@@ -12,63 +13,48 @@ use Rattle.network.proofs.split.into_half.Lts as lts
 use Rattle.network.proofs.split.kept.Reads as kept-reads
 use Rattle.sets.proofs.union.Reads as union-reads
 
--- src/split.rt:68:24
 array-read-kept : tie.Need-array-read-kept
 array-read-kept c = search needs
 
--- src/split.rt:68:9
 kept-requires : tie.Need-kept-requires
 kept-requires c κs = search needs
 
--- src/split.rt:69:29
 add-kept : tie.Need-add-kept
 add-kept c = search needs
 
--- src/split.rt:69:24
 array-read-kept-2 : tie.Need-array-read-kept-2
 array-read-kept-2 c = search needs
 
--- src/split.rt:69:9
 kept-requires-2 : tie.Need-kept-requires-2
 kept-requires-2 c κs = search needs
 
--- src/split.rt:70:29
 add-kept-2 : tie.Need-add-kept-2
 add-kept-2 c = search needs
 
--- src/split.rt:70:24
 array-read-kept-3 : tie.Need-array-read-kept-3
 array-read-kept-3 c = search needs
 
--- src/split.rt:70:9
 kept-requires-3 : tie.Need-kept-requires-3
 kept-requires-3 c κs = search needs
 
--- src/split.rt:71:29
 add-kept-3 : tie.Need-add-kept-3
 add-kept-3 c = search needs
 
--- src/split.rt:71:24
 array-read-kept-4 : tie.Need-array-read-kept-4
 array-read-kept-4 c = search needs
 
--- src/split.rt:71:9
 kept-requires-4 : tie.Need-kept-requires-4
 kept-requires-4 c κs = search needs
 
--- src/split.rt:72:35
 union-requires : tie.Need-union-requires
 union-requires c κs = search needs
 
--- src/split.rt:72:20
 union-requires-2 : tie.Need-union-requires-2
 union-requires-2 c κs = search needs
 
--- src/split.rt:72:5
 union-requires-3 : tie.Need-union-requires-3
 union-requires-3 c κs = search needs
 
--- src/split.rt:64:1
 returns : tie.Need-returns
 returns c = let a = c .before .before .before .before .before .before .before .args in
     joined-four (a .t1) (a .first) (a .x) _ _ _ _ _ _ _ (c .before .before .before .before .before .before .kept .ensures) (c .before .before .before .before .before .kept2 .ensures) (c .before .before .before .before .kept3 .ensures) (c .before .before .before .kept4 .ensures)

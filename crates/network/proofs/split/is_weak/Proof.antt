@@ -1,3 +1,5 @@
+-- `network::split::is_weak` meets its contract. The two tables give the servers with a link into s (`halves-into`), and the table of sizes counts
+-- those outside s and F (`size-outside`). Assumes nothing.
 use lib.Dec.{leb}
 use mathlib.Core.Path.{_≡_, refl, sym, ap, _∙_}
 use mathlib.Core.Logic.{_⊎_, inl, inr, ⊎-elim}
@@ -14,43 +16,33 @@ use Rattle.network.proofs.split.is_weak.Lts as lts
 use Rattle.sets.proofs.minus.Reads as minus-reads
 use Rattle.sets.proofs.union.Reads as union-reads
 
--- src/split.rt:95:15
 cast-low : tie.Need-cast-low
 cast-low c = search needs
 
--- src/split.rt:96:16
 cast-high : tie.Need-cast-high
 cast-high c = search needs
 
--- src/split.rt:97:28
 element-copy-out-union : tie.Need-element-copy-out-union
 element-copy-out-union c = search needs
 
--- src/split.rt:97:41
 element-copy-out-union-2 : tie.Need-element-copy-out-union-2
 element-copy-out-union-2 c = search needs
 
--- src/split.rt:97:9
 union-requires : tie.Need-union-requires
 union-requires c κs = search needs
 
--- src/split.rt:98:9
 minus-requires : tie.Need-minus-requires
 minus-requires c κs = search needs
 
--- src/split.rt:99:19
 minus-requires-2 : tie.Need-minus-requires-2
 minus-requires-2 c κs = search needs
 
--- src/split.rt:99:19
 cast-outside : tie.Need-cast-outside
 cast-outside c = search needs
 
--- src/split.rt:100:5
 element-copy-out-result : tie.Need-element-copy-out-result
 element-copy-out-result c = search needs
 
--- src/split.rt:92:1
 returns : tie.Need-returns
 returns c = λ n links h k t.
     let a = c .before .before .before .before .before .before .args in

@@ -1,3 +1,4 @@
+-- `network::split::kept` meets its contract. By the test for membership. Assumes nothing.
 use mathlib.Core.Path.{_≡_, refl, sym, ap, _∙_}
 use mathlib.Core.Logic.{_⊎_, inl, inr, ⊎-elim}
 use mathlib.Core.Bool.{Bool, true, false}
@@ -10,15 +11,12 @@ use Rattle.network.proofs.split.kept.Reads as reads
 use Rattle.network.proofs.split.kept.Lts as lts
 use Rattle.sets.proofs.member.Reads as member-reads
 
--- src/split.rt:57:8
 member-requires : tie.Need-member-requires
 member-requires c κs = search needs
 
--- src/split.rt:58:9
 returns : tie.Need-returns
 returns c = simp (sym (c .before .member .ensures) ∙ c .if1 .taken)
 
--- src/split.rt:54:1
 returns-2 : tie.Need-returns-2
 returns-2 c = simp (sym (c .before .member .ensures) ∙ c .if1 .left)
 

@@ -1,3 +1,5 @@
+-- `network::split::source_rows` meets its contract. The invariant of its loop, `Rows`: the rows below v are made. The measure is what is left of the
+-- eight. Assumes nothing.
 use mathlib.Core.Path.{_≡_, refl, sym, ap, _∙_}
 use mathlib.Core.Logic.{_⊎_, inl, inr, ⊎-elim}
 use mathlib.Core.Bool.{Bool, true, false}
@@ -17,31 +19,24 @@ Inv-loop links rows₀ v₀ rows v = Rows links v rows
 abbrev μ-loop : tie.MeasureT-loop
 μ-loop links rows₀ v₀ rows v = 8 - v
 
--- src/split.rt:45:5
 loop-holds : tie.Need-loop-holds Inv-loop μ-loop
 loop-holds c = rows-start _ _ refl
 
--- src/split.rt:46:13
 sources-requires : tie.Need-sources-requires Inv-loop μ-loop
 sources-requires c κs = search needs
 
--- src/split.rt:47:9
 array-write-rows : tie.Need-array-write-rows Inv-loop μ-loop
 array-write-rows c = search needs
 
--- src/split.rt:45:9
 add-v : tie.Need-add-v Inv-loop μ-loop
 add-v c = search needs
 
--- src/split.rt:45:5
 loop-less : tie.Need-loop-less Inv-loop μ-loop
 loop-less c = search needs
 
--- src/split.rt:45:5
 loop-again : tie.Need-loop-again Inv-loop μ-loop
 loop-again c = rows-turn _ _ _ (c .before .before .before .loop .inv) (omega arith) _ (c .sources .ensures)
 
--- src/split.rt:41:1
 returns : tie.Need-returns Inv-loop μ-loop
 returns c = let e : c .before .loop .v ≡ 8 = let i = c .before .loop .inv .inside in omega arith in let h = rw e at (c .before .loop .inv) in h .made
 

@@ -1,3 +1,5 @@
+-- `network::split::sources` meets its contract. The invariant of its loop: the row holds the servers below u with a link to v. The measure is what is
+-- left of the eight. Assumes nothing.
 use mathlib.Core.Path.{_≡_, refl, sym, ap, _∙_}
 use mathlib.Core.Logic.{_⊎_, inl, inr, ⊎-elim}
 use mathlib.Core.Bool.{Bool, true, false}
@@ -18,43 +20,33 @@ Inv-loop links v row₀ u₀ row u = (u ≤ 8) × SourcesOf links v u row
 abbrev μ-loop : tie.MeasureT-loop
 μ-loop links v row₀ u₀ row u = 8 - u
 
--- src/split.rt:32:5
 loop-holds : tie.Need-loop-holds Inv-loop μ-loop
 loop-holds c = (omega arith, to-starts _ _)
 
--- src/split.rt:33:12
 mul-if1 : tie.Need-mul-if1 Inv-loop μ-loop
 mul-if1 c = search needs
 
--- src/split.rt:33:12
 index-1-if1 : tie.Need-index-1-if1 Inv-loop μ-loop
 index-1-if1 c = search needs
 
--- src/split.rt:33:12
 index-2-if1 : tie.Need-index-2-if1 Inv-loop μ-loop
 index-2-if1 c = search needs
 
--- src/split.rt:34:43
 cast-union : tie.Need-cast-union Inv-loop μ-loop
 cast-union c = search needs
 
--- src/split.rt:34:36
 shl-union : tie.Need-shl-union Inv-loop μ-loop
 shl-union c = search needs
 
--- src/split.rt:34:13
 union-requires : tie.Need-union-requires Inv-loop μ-loop
 union-requires c κs = search needs
 
--- src/split.rt:32:9
 add-u : tie.Need-add-u Inv-loop μ-loop
 add-u c = search needs
 
--- src/split.rt:32:5
 loop-less : tie.Need-loop-less Inv-loop μ-loop
 loop-less c = search needs
 
--- src/split.rt:32:5
 loop-again : tie.Need-loop-again Inv-loop μ-loop
 loop-again c = let a = c .before .before .before .before .args in
     let l = c .before .before .before .loop in (
@@ -65,7 +57,6 @@ loop-again c = let a = c .before .before .before .before .args in
           (c .if1 .came),
     )
 
--- src/split.rt:27:1
 returns : tie.Need-returns Inv-loop μ-loop
 returns c = let e : c .before .loop .u ≡ 8 = omega arith in rw e at (c .before .loop .inv .1)
 

@@ -1,3 +1,5 @@
+-- `network::split::split_test` meets its contract. The card reader gives the refusal, or a proper network, whose first bad split is searched. Assumes
+-- nothing.
 use mathlib.Core.Path.{_≡_, refl, sym, ap, _∙_}
 use mathlib.Core.Logic.{_⊎_, inl, inr, ⊎-elim}
 use mathlib.Core.Bool.{Bool, true, false}
@@ -13,27 +15,21 @@ use Rattle.network.proofs.split.split_test.Lts as lts
 use Rattle.network.proofs.card.read_card.Reads as read-card-reads
 use Rattle.network.proofs.split.first_bad.Reads as first-bad-reads
 
--- src/split.rt:155:9
 read-card-requires : tie.Need-read-card-requires
 read-card-requires c κs = search needs
 
--- src/split.rt:157:26
 enum-known-reading : tie.Need-enum-known-reading
 enum-known-reading c = search needs
 
--- src/split.rt:158:28
 enum-known-reading-2 : tie.Need-enum-known-reading-2
 enum-known-reading-2 c = search needs
 
--- src/split.rt:158:38
 first-bad-requires : tie.Need-first-bad-requires
 first-bad-requires c κs = head-proper _ _ _ _ _ (sym (c .before .before .before .read-card .ensures .reading) ∙ ap readingOf (c .before .reading2 .given .1)) (c .before .before .before .read-card .ensures .links)
 
--- src/split.rt:151:1
 returns : tie.Need-returns
 returns c = refused-split _ _ (sym (c .before .before .before .read-card .ensures .reading) ∙ ap readingOf (c .before .reading .given .1))
 
--- src/split.rt:151:1
 returns-2 : tie.Need-returns-2
 returns-2 c = c .first-bad .ensures ∙ network-split _ _ _ _ _ (sym (c .before .before .before .before .read-card .ensures .reading) ∙ ap readingOf (c .before .before .reading2 .given .1)) (c .before .before .before .before .read-card .ensures .links)
 

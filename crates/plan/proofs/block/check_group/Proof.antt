@@ -1,3 +1,5 @@
+-- `plan::block::check_group` meets its contract. The invariant of its loop: what is left of the group gives the answer of the whole. The measure is
+-- how many routes are left. Assumes nothing.
 use mathlib.Core.Path.{_≡_, refl, sym, ap, _∙_}
 use mathlib.Core.Logic.{_⊎_, inl, inr, ⊎-elim}
 use mathlib.Core.Bool.{Bool, true, false}
@@ -30,15 +32,12 @@ abbrev μ-loop : tie.MeasureT-loop
 μ-loop n links fault plan start before command sources receiver count at₀ carriages₀ used₀ k₀ at carriages used k =
     count - k
 
--- src/block.rt:52:5
 loop-holds : tie.Need-loop-holds Inv-loop μ-loop
 loop-holds c = let e : c .before .args .count - 0 ≡ c .before .args .count = omega arith in (omega arith, c .before .pre .1, rw e refl)
 
--- src/block.rt:53:12
 is-cut-requires : tie.Need-is-cut-requires Inv-loop μ-loop
 is-cut-requires c κs = search needs
 
--- src/block.rt:54:13
 returns : tie.Need-returns Inv-loop μ-loop
 returns c = let a = c .before .before .before .before .before .args in
     let l = c .before .before .before .loop in
@@ -47,11 +46,9 @@ returns c = let a = c .before .before .before .before .before .args in
     let i = one-less (a .count) (l .k) h (λ (x : ℕ). checkGroup (a .n) (a .links) (a .fault) (a .plan .now) g x (l .at) (l .carriages) (l .used)) _ (l .inv .2) in
     group-cut (a .n) (a .links) (a .fault) (a .plan .now) g (a .count - (l .k + 1)) (l .at) (l .carriages) (l .used) _ (c .before .is-cut .ensures) (c .if1 .taken) ∙ i
 
--- src/block.rt:56:12
 shared-slice-read-if2 : tie.Need-shared-slice-read-if2 Inv-loop μ-loop
 shared-slice-read-if2 c = whole-command (c .before .before .before .before .before .before .args .plan .now) (c .before .before .before .before .loop .at) _ (sym (c .before .before .is-cut .ensures) ∙ c .before .if1 .left) refl .0
 
--- src/block.rt:57:13
 returns-2 : tie.Need-returns-2 Inv-loop μ-loop
 returns-2 c = let a = c .before .before .before .before .before .before .before .args in
     let l = c .before .before .before .before .before .loop in
@@ -60,27 +57,21 @@ returns-2 c = let a = c .before .before .before .before .before .before .before 
     let i = one-less (a .count) (l .k) h (λ (x : ℕ). checkGroup (a .n) (a .links) (a .fault) (a .plan .now) g x (l .at) (l .carriages) (l .used)) _ (l .inv .2) in
     group-other (a .n) (a .links) (a .fault) (a .plan .now) g (a .count - (l .k + 1)) (l .at) (l .carriages) (l .used) _ (c .before .before .before .is-cut .ensures) (c .before .before .if1 .left) (c .if2 .taken) ∙ i
 
--- src/block.rt:59:21
 add-first : tie.Need-add-first Inv-loop μ-loop
 add-first c = let z = whole-command (c .before .before .before .before .before .before .before .args .plan .now) (c .before .before .before .before .before .loop .at) _ (sym (c .before .before .before .is-cut .ensures) ∙ c .before .before .if1 .left) refl in omega arith
 
--- src/block.rt:60:23
 sub-operand : tie.Need-sub-operand Inv-loop μ-loop
 sub-operand c = let z = whole-command (c .before .before .before .before .before .before .before .args .plan .now) (c .before .before .before .before .before .loop .at) _ (sym (c .before .before .before .is-cut .ensures) ∙ c .before .before .if1 .left) refl in omega arith
 
--- src/block.rt:60:23
 part-operand-start : tie.Need-part-operand-start Inv-loop μ-loop
 part-operand-start c = let z = whole-command (c .before .before .before .before .before .before .before .args .plan .now) (c .before .before .before .before .before .loop .at) _ (sym (c .before .before .before .is-cut .ensures) ∙ c .before .before .if1 .left) refl in omega arith
 
--- src/block.rt:60:23
 part-operand-end : tie.Need-part-operand-end Inv-loop μ-loop
 part-operand-end c = let z = whole-command (c .before .before .before .before .before .before .before .args .plan .now) (c .before .before .before .before .before .loop .at) _ (sym (c .before .before .before .is-cut .ensures) ∙ c .before .before .if1 .left) refl in omega arith
 
--- src/block.rt:61:13
 check-route-requires : tie.Need-check-route-requires Inv-loop μ-loop
 check-route-requires c κs = search needs
 
--- src/block.rt:63:13
 returns-3 : tie.Need-returns-3 Inv-loop μ-loop
 returns-3 c = let a = c .before .before .before .before .before .before .before .before .before .before .args in
     let l = c .before .before .before .before .before .before .before .before .loop in
@@ -89,23 +80,18 @@ returns-3 c = let a = c .before .before .before .before .before .before .before 
     let i = one-less (a .count) (l .k) h (λ (x : ℕ). checkGroup (a .n) (a .links) (a .fault) (a .plan .now) g x (l .at) (l .carriages) (l .used)) _ (l .inv .2) in
     group-route (a .n) (a .links) (a .fault) (a .plan .now) g (a .count - (l .k + 1)) (l .at) (l .carriages) (l .used) _ (c .before .before .before .before .before .before .is-cut .ensures) (c .before .before .before .before .before .if1 .left) (c .before .before .before .if2 .left) (c .before .before .before .before .before .before .before .before .before .before .pre .0) _ (c .before .check-route .ensures ∙ ap (checkedRoute (a .n) (a .links) (a .fault) (a .sources) (a .receiver)) (part-rest (a .plan .now) (l .at + 1))) (c .if3 .taken) ∙ i
 
--- src/block.rt:65:13
 set-of-requires : tie.Need-set-of-requires Inv-loop μ-loop
 set-of-requires c κs = search needs
 
--- src/block.rt:66:40
 single-requires : tie.Need-single-requires Inv-loop μ-loop
 single-requires c κs = search needs
 
--- src/block.rt:66:13
 minus-requires : tie.Need-minus-requires Inv-loop μ-loop
 minus-requires c κs = search needs
 
--- src/block.rt:67:13
 meet-requires : tie.Need-meet-requires Inv-loop μ-loop
 meet-requires c κs = search needs
 
--- src/block.rt:69:13
 returns-4 : tie.Need-returns-4 Inv-loop μ-loop
 returns-4 c = let a = c .before .before .before .before .before .before .before .before .before .before .before .before .before .before .before .args in
     let l = c .before .before .before .before .before .before .before .before .before .before .before .before .before .loop in
@@ -114,27 +100,21 @@ returns-4 c = let a = c .before .before .before .before .before .before .before 
     let i = one-less (a .count) (l .k) h (λ (x : ℕ). checkGroup (a .n) (a .links) (a .fault) (a .plan .now) g x (l .at) (l .carriages) (l .used)) _ (l .inv .2) in
     group-shared (a .n) (a .links) (a .fault) (a .plan .now) g (a .count - (l .k + 1)) (l .at) (l .carriages) (l .used) _ (c .before .before .before .before .before .before .before .before .before .before .before .is-cut .ensures) (c .before .before .before .before .before .before .before .before .before .before .if1 .left) (c .before .before .before .before .before .before .before .before .if2 .left) (c .before .before .before .before .before .before .before .before .before .before .before .before .before .before .before .pre .0) _ (c .before .before .before .before .before .before .check-route .ensures ∙ ap (checkedRoute (a .n) (a .links) (a .fault) (a .sources) (a .receiver)) (part-rest (a .plan .now) (l .at + 1))) (c .before .before .before .before .before .if3 .left) _ _ _ _ (c .before .before .before .before .set-of .ensures) (c .before .before .before .single .ensures) (c .before .before .minus .ensures) (c .before .meet .ensures) (c .if4 .taken) ∙ i
 
--- src/block.rt:71:9
 union-requires : tie.Need-union-requires Inv-loop μ-loop
 union-requires c κs = search needs
 
--- src/block.rt:72:14
 add-at : tie.Need-add-at Inv-loop μ-loop
 add-at c = let z = whole-command (c .before .before .before .before .before .before .before .before .before .before .before .before .before .before .before .before .args .plan .now) (c .before .before .before .before .before .before .before .before .before .before .before .before .before .before .loop .at) _ (sym (c .before .before .before .before .before .before .before .before .before .before .before .before .is-cut .ensures) ∙ c .before .before .before .before .before .before .before .before .before .before .before .if1 .left) refl in omega arith
 
--- src/block.rt:73:21
 add-carriages : tie.Need-add-carriages Inv-loop μ-loop
 add-carriages c = let z = whole-command (c .before .before .before .before .before .before .before .before .before .before .before .before .before .before .before .before .args .plan .now) (c .before .before .before .before .before .before .before .before .before .before .before .before .before .before .loop .at) _ (sym (c .before .before .before .before .before .before .before .before .before .before .before .before .is-cut .ensures) ∙ c .before .before .before .before .before .before .before .before .before .before .before .if1 .left) refl in omega arith
 
--- src/block.rt:52:9
 add-k : tie.Need-add-k Inv-loop μ-loop
 add-k c = search needs
 
--- src/block.rt:52:5
 loop-less : tie.Need-loop-less Inv-loop μ-loop
 loop-less c = search needs
 
--- src/block.rt:52:5
 loop-again : tie.Need-loop-again Inv-loop μ-loop
 loop-again c = let a = c .before .before .before .before .before .before .before .before .before .before .before .before .before .before .before .before .args in
     let l = c .before .before .before .before .before .before .before .before .before .before .before .before .before .before .loop in
@@ -143,7 +123,6 @@ loop-again c = let a = c .before .before .before .before .before .before .before
     let i = one-less (a .count) (l .k) h (λ (x : ℕ). checkGroup (a .n) (a .links) (a .fault) (a .plan .now) g x (l .at) (l .carriages) (l .used)) _ (l .inv .2) in
     (omega arith, omega arith, group-on (a .n) (a .links) (a .fault) (a .plan .now) g (a .count - (l .k + 1)) (l .at) (l .carriages) (l .used) _ (c .before .before .before .before .before .before .before .before .before .before .before .before .is-cut .ensures) (c .before .before .before .before .before .before .before .before .before .before .before .if1 .left) (c .before .before .before .before .before .before .before .before .before .if2 .left) (c .before .before .before .before .before .before .before .before .before .before .before .before .before .before .before .before .pre .0) _ (c .before .before .before .before .before .before .before .check-route .ensures ∙ ap (checkedRoute (a .n) (a .links) (a .fault) (a .sources) (a .receiver)) (part-rest (a .plan .now) (l .at + 1))) (c .before .before .before .before .before .before .if3 .left) _ _ _ _ (c .before .before .before .before .before .set-of .ensures) (c .before .before .before .before .single .ensures) (c .before .before .before .minus .ensures) (c .before .before .meet .ensures) (c .before .if4 .left) _ (c .union .ensures) ∙ i)
 
--- src/block.rt:34:1
 returns-5 : tie.Need-returns-5 Inv-loop μ-loop
 returns-5 c = let a = c .before .before .before .args in
     let l = c .before .loop in

@@ -1,3 +1,5 @@
+-- `plan::block::set_of` meets its contract. The invariant of its loop, which goes from the last server to the first: the set holds the servers from
+-- `left` on. The measure is `left`. Assumes nothing.
 use mathlib.Core.Path.{_≡_, refl, sym, ap, _∙_}
 use mathlib.Core.Logic.{_⊎_, inl, inr, ⊎-elim}
 use mathlib.Core.Bool.{Bool, true, false}
@@ -20,35 +22,27 @@ Inv-loop servers set₀ left₀ set left = (left ≤ length servers) × (set ≡
 abbrev μ-loop : tie.MeasureT-loop
 μ-loop servers set₀ left₀ set left = left
 
--- src/group.rt:11:5
 loop-holds : tie.Need-loop-holds Inv-loop μ-loop
 loop-holds c = (omega arith, set-starts (c .before .args .servers .now))
 
--- src/group.rt:12:18
 sub-at : tie.Need-sub-at Inv-loop μ-loop
 sub-at c = search needs
 
--- src/group.rt:13:40
 shared-slice-read-single : tie.Need-shared-slice-read-single Inv-loop μ-loop
 shared-slice-read-single c = search needs
 
--- src/group.rt:13:27
 single-requires : tie.Need-single-requires Inv-loop μ-loop
 single-requires c κs = search needs
 
--- src/group.rt:13:9
 union-requires : tie.Need-union-requires Inv-loop μ-loop
 union-requires c κs = search needs
 
--- src/group.rt:11:5
 loop-less : tie.Need-loop-less Inv-loop μ-loop
 loop-less c = search needs
 
--- src/group.rt:11:5
 loop-again : tie.Need-loop-again Inv-loop μ-loop
 loop-again c = (omega arith, set-turn _ _ (c .before .before .before .loop-test .taken) (c .before .before .before .before .loop .inv .0) _ _ _ (c .before .before .before .before .loop .inv .1) (c .before .single .ensures) (c .union .ensures))
 
--- src/group.rt:6:1
 returns : tie.Need-returns Inv-loop μ-loop
 returns c = let e : c .before .loop .left ≡ 0 = omega arith in rw e at (c .before .loop .inv .1)
 

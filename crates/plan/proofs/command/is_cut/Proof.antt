@@ -1,3 +1,4 @@
+-- `plan::command::is_cut` meets its contract. Each test turns one part of the definition (`Commands`). Assumes nothing.
 use Rattle.plan.proofs.Commands.{cut-none, cut-unknown, cut-short}
 use mathlib.Core.Path.{_≡_, refl, sym, ap, _∙_}
 use mathlib.Core.Logic.{_⊎_, inl, inr, ⊎-elim}
@@ -13,27 +14,21 @@ use Rattle.plan.proofs.command.is_cut.Reads as reads
 use Rattle.plan.proofs.command.is_cut.Lts as lts
 use Rattle.plan.proofs.command.width.Reads as width-reads
 
--- src/command.rt:35:27
 shared-slice-read-width : tie.Need-shared-slice-read-width
 shared-slice-read-width c = search needs
 
--- src/command.rt:35:13
 width-requires : tie.Need-width-requires
 width-requires c κs = search needs
 
--- src/command.rt:37:13
 returns : tie.Need-returns
 returns c = cut-unknown _ _ (c .before .before .before .if1 .taken) _ (c .before .width .ensures) (c .if2 .taken)
 
--- src/command.rt:39:16
 sub-result : tie.Need-sub-result
 sub-result c = search needs
 
--- src/command.rt:39:9
 returns-2 : tie.Need-returns-2
 returns-2 c = cut-short _ _ (c .before .before .before .if1 .taken) _ (c .before .width .ensures) (c .if2 .left)
 
--- src/command.rt:31:1
 returns-3 : tie.Need-returns-3
 returns-3 c = cut-none _ _ (c .if1 .left)
 

@@ -1,3 +1,4 @@
+-- `plan::command::width` meets its contract. Each test turns one part of the definition. Assumes nothing.
 use mathlib.Core.Path.{_≡_, refl, sym, ap, _∙_}
 use mathlib.Core.Logic.{_⊎_, inl, inr, ⊎-elim}
 use mathlib.Core.Bool.{Bool, true, false}
@@ -11,37 +12,30 @@ use Rattle.plan.proofs.command.width.Tie as tie
 use Rattle.plan.proofs.command.width.Reads as reads
 use Rattle.plan.proofs.command.width.Lts as lts
 
--- src/command.rt:10:9
 returns : tie.Need-returns
 unfolding width
 returns c = simp (eq-eqb _ _ (c .if1 .taken))
 
--- src/command.rt:13:9
 returns-2 : tie.Need-returns-2
 unfolding width
 returns-2 c = simp (ne-eqb _ _ (c .before .if1 .left), eq-eqb _ _ (c .if2 .taken))
 
--- src/command.rt:16:9
 returns-3 : tie.Need-returns-3
 unfolding width
 returns-3 c = simp (ne-eqb _ _ (c .before .before .if1 .left), ne-eqb _ _ (c .before .if2 .left), eq-eqb _ _ (c .if3 .taken))
 
--- src/command.rt:19:9
 returns-4 : tie.Need-returns-4
 unfolding width
 returns-4 c = simp (ne-eqb _ _ (c .before .before .before .if1 .left), ne-eqb _ _ (c .before .before .if2 .left), ne-eqb _ _ (c .before .if3 .left), eq-eqb _ _ (c .if4 .taken))
 
--- src/command.rt:22:9
 returns-5 : tie.Need-returns-5
 unfolding width
 returns-5 c = simp (ne-eqb _ _ (c .before .before .before .before .if1 .left), ne-eqb _ _ (c .before .before .before .if2 .left), ne-eqb _ _ (c .before .before .if3 .left), ne-eqb _ _ (c .before .if4 .left), eq-eqb _ _ (c .if5 .taken))
 
--- src/command.rt:25:9
 returns-6 : tie.Need-returns-6
 unfolding width
 returns-6 c = simp (ne-eqb _ _ (c .before .before .before .before .before .if1 .left), ne-eqb _ _ (c .before .before .before .before .if2 .left), ne-eqb _ _ (c .before .before .before .if3 .left), ne-eqb _ _ (c .before .before .if4 .left), ne-eqb _ _ (c .before .if5 .left), eq-eqb _ _ (c .if6 .taken))
 
--- src/command.rt:6:1
 returns-7 : tie.Need-returns-7
 unfolding width
 returns-7 c = simp (ne-eqb _ _ (c .before .before .before .before .before .if1 .left), ne-eqb _ _ (c .before .before .before .before .if2 .left), ne-eqb _ _ (c .before .before .before .if3 .left), ne-eqb _ _ (c .before .before .if4 .left), ne-eqb _ _ (c .before .if5 .left), ne-eqb _ _ (c .if6 .left))

@@ -1,3 +1,4 @@
+-- `plan::route::check_route` meets its contract. Each answer is one way a route keeps or breaks the rules (`Paths`, route-..). Assumes nothing.
 use mathlib.Core.Path.{_≡_, refl, sym, ap, _∙_}
 use mathlib.Core.Logic.{_⊎_, inl, inr, ⊎-elim}
 use mathlib.Core.Bool.{Bool, true, false}
@@ -14,156 +15,118 @@ use Rattle.plan.proofs.route.is_filled.Reads as is-filled-reads
 use Rattle.plan.proofs.route.path_length.Reads as path-length-reads
 use Rattle.sets.proofs.member.Reads as member-reads
 
--- src/route.rt:68:16
 sub-result : tie.Need-sub-result
 sub-result c = search needs
 
--- src/route.rt:68:16
 part-result-start : tie.Need-part-result-start
 part-result-start c = search needs
 
--- src/route.rt:68:16
 part-result-end : tie.Need-part-result-end
 part-result-end c = search needs
 
--- src/route.rt:68:9
 returns : tie.Need-returns
 returns c = route-short (c .before .before .before .args .n) (c .before .before .before .args .links) (c .before .before .before .args .fault) (c .before .before .before .args .sources) (c .before .before .before .args .receiver) (c .before .before .before .args .operand .now) (omega arith)
 
--- src/route.rt:70:9
 path-length-requires : tie.Need-path-length-requires
 path-length-requires c κs = search needs
 
--- src/route.rt:72:16
 sub-result-2 : tie.Need-sub-result-2
 sub-result-2 c = search needs
 
--- src/route.rt:72:16
 part-result-start-2 : tie.Need-part-result-start-2
 part-result-start-2 c = search needs
 
--- src/route.rt:72:16
 part-result-end-2 : tie.Need-part-result-end-2
 part-result-end-2 c = search needs
 
--- src/route.rt:72:9
 returns-2 : tie.Need-returns-2
 returns-2 c = route-few (c .before .before .before .before .before .args .n) (c .before .before .before .before .before .args .links) (c .before .before .before .before .before .args .fault) (c .before .before .before .before .before .args .sources) (c .before .before .before .before .before .args .receiver) (c .before .before .before .before .before .args .operand .now) (omega arith) _ (c .before .before .path-length .ensures .0) (c .before .if2 .taken)
 
--- src/route.rt:74:8
 is-filled-requires : tie.Need-is-filled-requires
 is-filled-requires c κs = search needs
 
--- src/route.rt:75:22
 shared-slice-read-source : tie.Need-shared-slice-read-source
 shared-slice-read-source c = search needs
 
--- src/route.rt:77:20
 sub-result-3 : tie.Need-sub-result-3
 sub-result-3 c = search needs
 
--- src/route.rt:77:20
 part-result-start-3 : tie.Need-part-result-start-3
 part-result-start-3 c = search needs
 
--- src/route.rt:77:20
 part-result-end-3 : tie.Need-part-result-end-3
 part-result-end-3 c = search needs
 
--- src/route.rt:77:13
 returns-3 : tie.Need-returns-3
 returns-3 c = route-past (c .before .before .before .before .before .before .before .before .before .args .n) (c .before .before .before .before .before .before .before .before .before .args .links) (c .before .before .before .before .before .before .before .before .before .args .fault) (c .before .before .before .before .before .before .before .before .before .args .sources) (c .before .before .before .before .before .before .before .before .before .args .receiver) (c .before .before .before .before .before .before .before .before .before .args .operand .now) (omega arith) _ (c .before .before .before .before .before .before .path-length .ensures .0) (c .before .before .before .before .before .if2 .left) (c .before .before .before .before .before .before .path-length .ensures .1) _ (c .before .before .before .before .is-filled .ensures) (c .before .before .before .if3 .taken) (c .before .if4 .taken)
 
--- src/route.rt:79:12
 member-requires : tie.Need-member-requires
 member-requires c κs = search needs
 
--- src/route.rt:80:20
 sub-result-4 : tie.Need-sub-result-4
 sub-result-4 c = search needs
 
--- src/route.rt:80:20
 part-result-start-4 : tie.Need-part-result-start-4
 part-result-start-4 c = search needs
 
--- src/route.rt:80:20
 part-result-end-4 : tie.Need-part-result-end-4
 part-result-end-4 c = search needs
 
--- src/route.rt:80:13
 returns-4 : tie.Need-returns-4
 returns-4 c = route-faulty (c .before .before .before .before .before .before .before .before .before .before .before .args .n) (c .before .before .before .before .before .before .before .before .before .before .before .args .links) (c .before .before .before .before .before .before .before .before .before .before .before .args .fault) (c .before .before .before .before .before .before .before .before .before .before .before .args .sources) (c .before .before .before .before .before .before .before .before .before .before .before .args .receiver) (c .before .before .before .before .before .before .before .before .before .before .before .args .operand .now) (omega arith) _ (c .before .before .before .before .before .before .before .before .path-length .ensures .0) (c .before .before .before .before .before .before .before .if2 .left) (c .before .before .before .before .before .before .before .before .path-length .ensures .1) _ (c .before .before .before .before .before .before .is-filled .ensures) (c .before .before .before .before .before .if3 .taken) (c .before .before .before .if4 .left) _ (c .before .before .member .ensures) (c .before .if5 .taken)
 
--- src/route.rt:82:12
 member-requires-2 : tie.Need-member-requires-2
 member-requires-2 c κs = search needs
 
--- src/route.rt:83:16
 goes-on-requires : tie.Need-goes-on-requires
 goes-on-requires c κs = search needs
 
--- src/route.rt:84:24
 sub-result-5 : tie.Need-sub-result-5
 sub-result-5 c = search needs
 
--- src/route.rt:84:24
 part-result-start-5 : tie.Need-part-result-start-5
 part-result-start-5 c = search needs
 
--- src/route.rt:84:24
 part-result-end-5 : tie.Need-part-result-end-5
 part-result-end-5 c = search needs
 
--- src/route.rt:84:17
 returns-5 : tie.Need-returns-5
 returns-5 c = let e : c .before .before .before .before .before .before .before .before .before .before .before .before .path-length .result - 0 ≡ c .before .before .before .before .before .before .before .before .before .before .before .before .path-length .result = omega arith in
     rw e (route-sound (c .before .before .before .before .before .before .before .before .before .before .before .before .before .before .before .args .n) (c .before .before .before .before .before .before .before .before .before .before .before .before .before .before .before .args .links) (c .before .before .before .before .before .before .before .before .before .before .before .before .before .before .before .args .fault) (c .before .before .before .before .before .before .before .before .before .before .before .before .before .before .before .args .sources) (c .before .before .before .before .before .before .before .before .before .before .before .before .before .before .before .args .receiver) (c .before .before .before .before .before .before .before .before .before .before .before .before .before .before .before .args .operand .now) (omega arith) _ (c .before .before .before .before .before .before .before .before .before .before .before .before .path-length .ensures .0) (c .before .before .before .before .before .before .before .before .before .before .before .if2 .left) (c .before .before .before .before .before .before .before .before .before .before .before .before .path-length .ensures .1) _ (c .before .before .before .before .before .before .before .before .before .before .is-filled .ensures) (c .before .before .before .before .before .before .before .before .before .if3 .taken) (c .before .before .before .before .before .before .before .if4 .left) _ (c .before .before .before .before .before .before .member .ensures) (c .before .before .before .before .before .if5 .left) _ (c .before .before .before .before .member2 .ensures) (c .before .before .before .if6 .taken) _ (c .before .before .goes-on .ensures) (c .before .if7 .taken))
 
--- src/route.rt:86:20
 sub-result-6 : tie.Need-sub-result-6
 sub-result-6 c = search needs
 
--- src/route.rt:86:20
 part-result-start-6 : tie.Need-part-result-start-6
 part-result-start-6 c = search needs
 
--- src/route.rt:86:20
 part-result-end-6 : tie.Need-part-result-end-6
 part-result-end-6 c = search needs
 
--- src/route.rt:86:13
 returns-6 : tie.Need-returns-6
 returns-6 c = route-broken (c .before .before .before .before .before .before .before .before .before .before .before .before .before .before .before .args .n) (c .before .before .before .before .before .before .before .before .before .before .before .before .before .before .before .args .links) (c .before .before .before .before .before .before .before .before .before .before .before .before .before .before .before .args .fault) (c .before .before .before .before .before .before .before .before .before .before .before .before .before .before .before .args .sources) (c .before .before .before .before .before .before .before .before .before .before .before .before .before .before .before .args .receiver) (c .before .before .before .before .before .before .before .before .before .before .before .before .before .before .before .args .operand .now) (omega arith) _ (c .before .before .before .before .before .before .before .before .before .before .before .before .path-length .ensures .0) (c .before .before .before .before .before .before .before .before .before .before .before .if2 .left) (c .before .before .before .before .before .before .before .before .before .before .before .before .path-length .ensures .1) _ (c .before .before .before .before .before .before .before .before .before .before .is-filled .ensures) (c .before .before .before .before .before .before .before .before .before .if3 .taken) (c .before .before .before .before .before .before .before .if4 .left) _ (c .before .before .before .before .before .before .member .ensures) (c .before .before .before .before .before .if5 .left) _ (c .before .before .before .before .member2 .ensures) (c .before .before .before .if6 .taken) _ (c .before .before .goes-on .ensures) (c .before .if7 .left)
 
--- src/route.rt:88:16
 sub-result-7 : tie.Need-sub-result-7
 sub-result-7 c = search needs
 
--- src/route.rt:88:16
 part-result-start-7 : tie.Need-part-result-start-7
 part-result-start-7 c = search needs
 
--- src/route.rt:88:16
 part-result-end-7 : tie.Need-part-result-end-7
 part-result-end-7 c = search needs
 
--- src/route.rt:88:9
 returns-7 : tie.Need-returns-7
 returns-7 c = route-astray (c .before .before .before .before .before .before .before .before .before .before .before .before .before .args .n) (c .before .before .before .before .before .before .before .before .before .before .before .before .before .args .links) (c .before .before .before .before .before .before .before .before .before .before .before .before .before .args .fault) (c .before .before .before .before .before .before .before .before .before .before .before .before .before .args .sources) (c .before .before .before .before .before .before .before .before .before .before .before .before .before .args .receiver) (c .before .before .before .before .before .before .before .before .before .before .before .before .before .args .operand .now) (omega arith) _ (c .before .before .before .before .before .before .before .before .before .before .path-length .ensures .0) (c .before .before .before .before .before .before .before .before .before .if2 .left) (c .before .before .before .before .before .before .before .before .before .before .path-length .ensures .1) _ (c .before .before .before .before .before .before .before .before .is-filled .ensures) (c .before .before .before .before .before .before .before .if3 .taken) (c .before .before .before .before .before .if4 .left) _ (c .before .before .before .before .member .ensures) (c .before .before .before .if5 .left) _ (c .before .before .member2 .ensures) (c .before .if6 .left)
 
--- src/route.rt:90:5
 sub-result-8 : tie.Need-sub-result-8
 sub-result-8 c = search needs
 
--- src/route.rt:90:5
 part-result-start-8 : tie.Need-part-result-start-8
 part-result-start-8 c = search needs
 
--- src/route.rt:90:5
 part-result-end-8 : tie.Need-part-result-end-8
 part-result-end-8 c = search needs
 
--- src/route.rt:64:1
 returns-8 : tie.Need-returns-8
 returns-8 c = route-unfilled (c .before .before .before .before .before .before .before .args .n) (c .before .before .before .before .before .before .before .args .links) (c .before .before .before .before .before .before .before .args .fault) (c .before .before .before .before .before .before .before .args .sources) (c .before .before .before .before .before .before .before .args .receiver) (c .before .before .before .before .before .before .before .args .operand .now) (omega arith) _ (c .before .before .before .before .path-length .ensures .0) _ (c .before .before .is-filled .ensures) (c .before .if3 .left)
 

@@ -1,3 +1,5 @@
+-- `plan::route::is_filled` meets its contract. The invariant of its loop: what is left is fill exactly if the whole is. The measure is what is left
+-- of the eight bytes. Assumes nothing.
 use mathlib.Core.Path.{_≡_, refl, sym, ap, _∙_}
 use mathlib.Core.Logic.{_⊎_, inl, inr, ⊎-elim}
 use mathlib.Core.Bool.{Bool, true, false}
@@ -18,31 +20,24 @@ Inv-loop operand start k₀ k = (start ≤ k) × (k ≤ 8) × (isFill (drop k (t
 abbrev μ-loop : tie.MeasureT-loop
 μ-loop operand start k₀ k = 8 - k
 
--- src/route.rt:28:5
 loop-holds : tie.Need-loop-holds Inv-loop μ-loop
 loop-holds c = (omega arith, omega arith, refl)
 
--- src/route.rt:29:12
 shared-slice-read-if1 : tie.Need-shared-slice-read-if1 Inv-loop μ-loop
 shared-slice-read-if1 c = search needs
 
--- src/route.rt:30:13
 returns : tie.Need-returns Inv-loop μ-loop
 returns c = fill-stops (c .before .before .before .before .args .operand .now) (c .before .before .before .before .pre .0) _ (c .before .before .loop-test .taken) (c .if1 .taken) ∙ c .before .before .before .loop .inv .2
 
--- src/route.rt:28:9
 add-k : tie.Need-add-k Inv-loop μ-loop
 add-k c = search needs
 
--- src/route.rt:28:5
 loop-less : tie.Need-loop-less Inv-loop μ-loop
 loop-less c = search needs
 
--- src/route.rt:28:5
 loop-again : tie.Need-loop-again Inv-loop μ-loop
 loop-again c = (omega arith, omega arith, fill-passes (c .before .before .before .before .args .operand .now) (c .before .before .before .before .pre .0) _ (c .before .before .loop-test .taken) (c .if1 .left) ∙ c .before .before .before .loop .inv .2)
 
--- src/route.rt:24:1
 returns-2 : tie.Need-returns-2 Inv-loop μ-loop
 returns-2 c = fill-ends (c .before .before .args .operand .now) (c .before .before .pre .0) _ (c .loop-test .left) ∙ c .before .loop .inv .2
 

@@ -1,3 +1,5 @@
+-- `plan::route::path_length` meets its contract. The invariant of its loop: the servers passed and those still to come make up the path. The measure
+-- is what is left of the eight bytes. Assumes nothing.
 use mathlib.Core.Path.{_≡_, refl, sym, ap, _∙_}
 use mathlib.Core.Logic.{_⊎_, inl, inr, ⊎-elim}
 use mathlib.Core.Bool.{Bool, true, false}
@@ -18,31 +20,24 @@ Inv-loop operand k₀ k = (k ≤ 8) × (k + length (path (drop k (take 8 operand
 abbrev μ-loop : tie.MeasureT-loop
 μ-loop operand k₀ k = 8 - k
 
--- src/route.rt:15:5
 loop-holds : tie.Need-loop-holds Inv-loop μ-loop
 loop-holds c = (omega arith, omega arith)
 
--- src/route.rt:16:12
 shared-slice-read-if1 : tie.Need-shared-slice-read-if1 Inv-loop μ-loop
 shared-slice-read-if1 c = search needs
 
--- src/route.rt:17:13
 returns : tie.Need-returns Inv-loop μ-loop
 returns c = (path-stops (c .before .before .before .before .args .operand .now) (c .before .before .before .before .pre) _ (c .before .before .loop-test .taken) (c .before .before .before .loop .inv .1) (c .if1 .taken), omega arith)
 
--- src/route.rt:15:9
 add-k : tie.Need-add-k Inv-loop μ-loop
 add-k c = search needs
 
--- src/route.rt:15:5
 loop-less : tie.Need-loop-less Inv-loop μ-loop
 loop-less c = search needs
 
--- src/route.rt:15:5
 loop-again : tie.Need-loop-again Inv-loop μ-loop
 loop-again c = (omega arith, path-passes (c .before .before .before .before .args .operand .now) (c .before .before .before .before .pre) _ (c .before .before .loop-test .taken) (c .before .before .before .loop .inv .1) (c .if1 .left))
 
--- src/route.rt:11:1
 returns-2 : tie.Need-returns-2 Inv-loop μ-loop
 returns-2 c = (path-ends (c .before .before .args .operand .now) (c .before .before .pre) _ (c .loop-test .left) (c .before .loop .inv .0) (c .before .loop .inv .1), omega arith)
 
