@@ -1,8 +1,6 @@
 -- Bools     case splits on a test, with its equation
--- Below     what holds of every number below a bound: tests, counts, searches
 -- Tables    a rule of a table, from one computed test over all its entries
 -- Rows      the length of a row of an array of arrays
 pub mod Bools
-pub mod Below
 pub mod Tables
 pub mod Rows
