@@ -76,26 +76,35 @@ checkReports n f links F s (k ∷ ks) at carriages =
     isDue s at 0x14
     (cond (eqb (getD s (at + 1) 0) k && isReport n f links F k (getD s (at + 2) 0)) on (stopped 11 at))
 
--- a block from its 10 command on
-unfoldable pub checkBlock : ℕ → ℕ → Links → List ℕ → DueBlock → (at carriages : ℕ) → Progress
-checkBlock n f links s d at carriages =
+-- a block, from its 10 command to the plan's end
+unfoldable pub checkBlock : ℕ → ℕ → Links → List ℕ → DueBlock → Progress
+checkBlock n f links s d =
     let W = minus (full n) (d .faults) in
-    let F = getD s (at + 1) 0 in
-    let A = getD s (at + 2) 0 in
-    let S = getD s (at + 3) 0 in
+    let F = getD s 1 0 in
+    let A = getD s 2 0 in
+    let S = getD s 3 0 in
     let rest =
-    andThen (checkGroups n links F s (routesDue n f F A S) (at + 4) carriages)
-    (λ (at′ carriages′ : ℕ). checkReports n f links F s (members F) at′ carriages′) in
-    isDue s at 0x10
+    andThen (checkGroups n links F s (routesDue n f F A S) 4 0)
+    (λ (at carriages : ℕ). checkReports n f links F s (members F) at carriages) in
+    isDue s 0 0x10
     (cond (eqb F (d .faults) && (eqb A (d .part) || eqb A (minus W (d .part))))
-    (cond (not (eqb S 0) && within S W) rest (stopped 8 at))
-    (stopped 7 at))
+    (cond (not (eqb S 0) && within S W) rest (stopped 8 0))
+    (stopped 7 0))
+
+-- the progress in a block, seen from the plan's start
+abbrev pub onward : (at carriages : ℕ) → Progress → Progress
+onward at carriages (reached at′ carriages′) = reached (at + at′) (carriages + carriages′)
+onward at carriages (stopped number place) = stopped number (at + place)
 
 unfoldable pub checkBlocks : ℕ → ℕ → Links → List ℕ → List DueBlock → (at carriages : ℕ) → Progress
-checkBlocks n f links s [] at carriages =
-    isDue s at 0x15 (cond (ltb (at + 1) (length s)) (stopped 3 (at + 1)) (reached (at + 1) carriages))
+checkBlocks n f links s [] at carriages = reached at carriages
 checkBlocks n f links s (d ∷ ds) at carriages =
-    andThen (checkBlock n f links s d at carriages) (λ (at′ carriages′ : ℕ). checkBlocks n f links s ds at′ carriages′)
+    andThen (onward at carriages (checkBlock n f links (drop at s) d))
+    (λ (at′ carriages′ : ℕ). checkBlocks n f links s ds at′ carriages′)
+
+-- 15 after the last block, and nothing after it
+unfoldable pub checkEnd : List ℕ → (at carriages : ℕ) → Progress
+checkEnd s at carriages = isDue s at 0x15 (cond (ltb (at + 1) (length s)) (stopped 3 (at + 1)) (reached (at + 1) carriages))
 
 pub data Totals : Type 0 where
   totals : (blocks carriages : ℕ) → Totals
@@ -108,7 +117,7 @@ totalsOf blocks (stopped number place) = turned (plan number place)
 unfoldable pub checkOn : Network → List ℕ → Totals
 checkOn (refused r) s = turned r
 checkOn (network n f links) s =
-    let answer = totalsOf (length (due n f)) (checkBlocks n f links s (due n f) 0 0) in
+    let answer = totalsOf (length (due n f)) (andThen (checkBlocks n f links s (due n f) 0 0) (λ (at carriages : ℕ). checkEnd s at carriages)) in
     cond (ltb 1048576 (length s)) (turned (plan 1 0)) answer
 
 unfoldable pub checkPlan : List ℕ → List ℕ → Totals
