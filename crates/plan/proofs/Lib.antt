@@ -2,7 +2,9 @@
 -- Commands    the command at a place
 -- Paths       the servers of a route: where the fill starts, and the walk from server to server
 -- Groups      the separate routes to one receiver
+-- Joins       checks in a row
 pub mod Counts
 pub mod Commands
 pub mod Paths
 pub mod Groups
+pub mod Joins
