@@ -3,8 +3,12 @@
 -- Paths       the servers of a route: where the fill starts, and the walk from server to server
 -- Groups      the separate routes to one receiver
 -- Joins       checks in a row
+-- Walks       loops over the members of a set, each taking the check one step on
+-- Bounds      places and carriages stay within the plan's length
 pub mod Counts
 pub mod Commands
 pub mod Paths
 pub mod Groups
 pub mod Joins
+pub mod Walks
+pub mod Bounds

@@ -1,4 +1,4 @@
 // The route plan: order of blocks, route check, block check, plan check.
-pub mod block;
+pub mod check;
 pub mod command;
 pub mod route;

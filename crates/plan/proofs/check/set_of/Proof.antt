@@ -1,4 +1,4 @@
--- `plan::block::set_of` meets its contract. The invariant of its loop, which goes from the last server to the first: the set holds the servers from
+-- `plan::check::set_of` meets its contract. The invariant of its loop, which goes from the last server to the first: the set holds the servers from
 -- `left` on. The measure is `left`. Assumes nothing.
 use mathlib.Core.Path.{_≡_, refl, sym, ap, _∙_}
 use mathlib.Core.Logic.{_⊎_, inl, inr, ⊎-elim}
@@ -9,10 +9,10 @@ use borrow.Author.Needs.{needs}
 use lib.ListN.{length, drop}
 use Rattle.plan.specs.Route.{serversOf}
 use Rattle.plan.proofs.Paths.{set-starts, set-turn}
-use Rattle.plan.proofs.block.set_of.Statement.{statement}
-use Rattle.plan.proofs.block.set_of.Tie as tie
-use Rattle.plan.proofs.block.set_of.Reads as reads
-use Rattle.plan.proofs.block.set_of.Lts as lts
+use Rattle.plan.proofs.check.set_of.Statement.{statement}
+use Rattle.plan.proofs.check.set_of.Tie as tie
+use Rattle.plan.proofs.check.set_of.Reads as reads
+use Rattle.plan.proofs.check.set_of.Lts as lts
 use Rattle.sets.proofs.single.Reads as single-reads
 use Rattle.sets.proofs.union.Reads as union-reads
 

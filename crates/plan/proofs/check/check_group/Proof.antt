@@ -1,4 +1,4 @@
--- `plan::block::check_group` meets its contract. The invariant of its loop: what is left of the group gives the answer of the whole. The measure is
+-- `plan::check::check_group` meets its contract. The invariant of its loop: what is left of the group gives the answer of the whole. The measure is
 -- how many routes are left. Assumes nothing.
 use mathlib.Core.Path.{_≡_, refl, sym, ap, _∙_}
 use mathlib.Core.Logic.{_⊎_, inl, inr, ⊎-elim}
@@ -12,11 +12,11 @@ use Rattle.plan.specs.Route.{checkedRoute}
 use Rattle.plan.specs.Check.{checkGroup}
 use Rattle.plan.specs.Answers.{groupOf}
 use Rattle.plan.proofs.Groups.{whole-command, part-rest, one-less, group-cut, group-other, group-route, group-shared, group-on, group-done}
-use Rattle.plan.proofs.block.check_group.Statement.{statement}
-use Rattle.plan.proofs.block.check_group.Tie as tie
-use Rattle.plan.proofs.block.check_group.Reads as reads
-use Rattle.plan.proofs.block.check_group.Lts as lts
-use Rattle.plan.proofs.block.set_of.Reads as set-of-reads
+use Rattle.plan.proofs.check.check_group.Statement.{statement}
+use Rattle.plan.proofs.check.check_group.Tie as tie
+use Rattle.plan.proofs.check.check_group.Reads as reads
+use Rattle.plan.proofs.check.check_group.Lts as lts
+use Rattle.plan.proofs.check.set_of.Reads as set-of-reads
 use Rattle.plan.proofs.command.is_cut.Reads as is-cut-reads
 use Rattle.plan.proofs.route.check_route.Reads as check-route-reads
 use Rattle.sets.proofs.meet.Reads as meet-reads
