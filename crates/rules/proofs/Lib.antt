@@ -1,0 +1,2 @@
+-- Spans       bytes from a place on, joined and cut
+pub mod Spans
