@@ -1,6 +1,8 @@
 -- Lists       the members of a set as a list: what is listed, where, and how long the list is
+-- Progress    taking apart what a check reached
 -- Order       blocks in due order: those of one F stand together, and every cut of V−F is among them
 -- Routes      what a route's bytes and its set of servers say about its servers one by one
 pub mod Lists
+pub mod Progress
 pub mod Order
 pub mod Routes
