@@ -2,11 +2,13 @@
 -- Progress    taking apart what a check reached
 -- Bytes       spans of a byte and of parts in a row
 -- Reports     the reports of a block: the check of the commands 14
+-- Whole       the check of one block, and of the blocks of a list of due ones
 -- Order       blocks in due order: those of one F stand together, and every cut of V−F is among them
 -- Routes      what a route's bytes and its set of servers say about its servers one by one
 pub mod Lists
 pub mod Progress
 pub mod Bytes
 pub mod Reports
+pub mod Whole
 pub mod Order
 pub mod Routes
