@@ -3,6 +3,7 @@
 -- Bytes       spans of a byte and of parts in a row
 -- Reports     the reports of a block: the check of the commands 14
 -- Whole       the check of one block, and of the blocks of a list of due ones
+-- Main        what a user of the rules relies on: a plan is accepted exactly when it meets the rules
 -- Order       blocks in due order: those of one F stand together, and every cut of V−F is among them
 -- Routes      what a route's bytes and its set of servers say about its servers one by one
 pub mod Lists
@@ -10,5 +11,6 @@ pub mod Progress
 pub mod Bytes
 pub mod Reports
 pub mod Whole
+pub mod Main
 pub mod Order
 pub mod Routes
