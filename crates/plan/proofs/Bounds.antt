@@ -1,5 +1,6 @@
 -- The place that a check reaches lies within the plan, and the carriages are bounded by the bytes, so that no sum overflows.
 --     Bound m limit     the place is at most `limit`, the carriages at most m for a byte; a refusal has a place within it, and is not that of the length
+--     turn-..           one turn of a loop
 --     ..-bound          each check keeps the bound
 -- Assumes nothing.
 use mathlib.Core.Path.{_≡_, refl, sym, ap, _∙_}
@@ -17,10 +18,11 @@ use Rattle.plan.specs.Members.{members, listFrom}
 use Rattle.plan.specs.Due.{DueBlock, Group, isPart, blocksOf, fan, toOne, pairs, routesDue}
 use Rattle.plan.specs.Route.{isRoute, path, serversOf}
 use Rattle.plan.specs.Check.{Progress, reached, stopped, andThen, onward, width, isCut, isDue, isReport, routeAt, checkGroup, checkGroups, checkReports, checkBlock, checkBlocks}
-use Rattle.plan.specs.Answers.{groupOf}
+use Rattle.plan.specs.Answers.{progressOf, groupOf}
+use Rattle.plan.specs.declared.check.Progress as Code
 use Rattle.plan.proofs.Groups.{whole-command}
 use Rattle.plan.proofs.Joins.{groups-append}
-use Rattle.plan.proofs.Walks.{walk, fan-walk, toOneStep, toOne-walk, pairs-walk, reportStep, reports-walk, blockStep, cuts-walk, faultStep, blocks-walk}
+use Rattle.plan.proofs.Walks.{walk, walk-skips, walk-moves, fanStep, fan-walk, toOneStep, toOne-walk, rowStep, pairs-walk, reportStep, reports-walk, blockStep, cuts-walk, faultStep, blocks-walk}
 
 abbrev pub Bound : (m limit : ℕ) → Progress → Type 0
 Bound m limit (reached at carriages) = (at ≤ limit) × (carriages ≤ m * at)
@@ -50,6 +52,24 @@ pub bound-more : (limit : ℕ) (x : Progress) → Bound 1 limit x → Bound 256 
 bound-more limit (reached a c) b = (b .0, omega arith)
 bound-more limit (stopped number place) b = b
 
+-- the bound of a check is that of the code's progress
+pub code-bound : (m limit : ℕ) (x : Progress) → Bound m limit x → (y : Code.Progress) → progressOf y ≡ x → (a c : ℕ) → y ≡ Code.Progress.Reached a c → (a ≤ limit) × (c ≤ m * a)
+code-bound m limit x b y z a c r = let e : x ≡ reached a c = sym z ∙ ap progressOf r in rw e at b
+
+-- one turn of a loop over the numbers below a limit: the next number, and what is left from there
+module _ (m len : ℕ) (step : ℕ → ℕ → ℕ → Progress) (limit : ℕ) (p : Set) (whole : Progress) (i at carriages : ℕ)
+    (so : walk step (listFrom (limit - i) i p) at carriages ≡ whole) (h : i < limit) (b : Bool) (e : b ≡ p i) (at′ carriages′ : ℕ) where
+  pub turn-skips : b ≡ false → at ≤ len → carriages ≤ m * at → at′ ≡ at → carriages′ ≡ carriages
+      → (i + 1 ≤ limit) × (at′ ≤ len) × (carriages′ ≤ m * at′) × (walk step (listFrom (limit - (i + 1)) (i + 1) p) at′ carriages′ ≡ whole)
+  turn-skips f x y q r = rw (q, r) (omega arith, x, y, walk-skips step limit p whole i at carriages so h b e f)
+
+  pub turn-moves : b ≡ true → (y : Code.Progress) → progressOf y ≡ step i at carriages → Bound m len (step i at carriages)
+      → (a c : ℕ) → y ≡ Code.Progress.Reached a c → at′ ≡ a → carriages′ ≡ c
+      → (i + 1 ≤ limit) × (at′ ≤ len) × (carriages′ ≤ m * at′) × (walk step (listFrom (limit - (i + 1)) (i + 1) p) at′ carriages′ ≡ whole)
+  turn-moves t y z k a c g q r =
+      let l = code-bound m len (step i at carriages) k y z a c g in
+      rw (q, r) (omega arith, l .0, l .1, walk-moves step limit p whole i at carriages so h b e t (step i at carriages) refl y z a c g)
+
 module _ (n : ℕ) (links : Links) (F : ℕ) (s : List ℕ) where
   pub group-bound : (g : Group) → width (g .command) ≡ 9 → (k at carriages used : ℕ) → at ≤ length s → carriages ≤ 1 * at
       → Bound 1 (length s) (checkGroup n links F s g k at carriages used)
@@ -61,13 +81,17 @@ module _ (n : ℕ) (links : Links) (F : ℕ) (s : List ℕ) where
       by-cond (Bound 1 (length s)) (not (isRoute n links F (g .sources) (g .receiver) (routeAt s at))) _ _ (λ t. (omega arith, p))
       (λ t. by-cond (Bound 1 (length s)) (not (eqb (meet used (minus (serversOf (path (routeAt s at))) (single (g .receiver)))) 0)) _ _ (λ u. (omega arith, p)) (λ u. group-bound g w k (at + 9) (carriages + 1) _ (omega arith) (omega arith))))
 
+  pub receiver-bound : (f command sources : ℕ) → width command ≡ 9 → (r a c : ℕ) → a ≤ length s → c ≤ 1 * a → Bound 1 (length s) (fanStep n links F s f command sources r a c)
+  unfolding fanStep
+  receiver-bound f command sources w r a c p q = group-bound (groupOf command sources r (f + 1)) w (f + 1) a c 0 p q
+
   pub fan-bound : (f command sources : ℕ) → width command ≡ 9 → (rs : List ℕ) (at carriages : ℕ) → at ≤ length s → carriages ≤ 1 * at
       → Bound 1 (length s) (checkGroups n links F s (fan f command sources rs) at carriages)
   fan-bound f command sources w rs at carriages p q =
       rw (fan-walk n links F s f command sources rs at carriages)
-      (walk-bound 1 (length s) _ (λ r a c p′ q′. group-bound (groupOf command sources r (f + 1)) w (f + 1) a c 0 p′ q′) rs at carriages p q)
+      (walk-bound 1 (length s) (fanStep n links F s f command sources) (receiver-bound f command sources w) rs at carriages p q)
 
-  toOne-bound : (r x a c : ℕ) → a ≤ length s → c ≤ 1 * a → Bound 1 (length s) (toOneStep n links F s r x a c)
+  pub toOne-bound : (r x a c : ℕ) → a ≤ length s → c ≤ 1 * a → Bound 1 (length s) (toOneStep n links F s r x a c)
   unfolding toOneStep width
   toOne-bound r x a c p q = by-cond (Bound 1 (length s)) (eqb x r) _ _ (λ e. (p, q)) (λ e. group-bound _ refl 1 a c 0 p q)
 
@@ -76,10 +100,14 @@ module _ (n : ℕ) (links : Links) (F : ℕ) (s : List ℕ) where
   row-bound r ss at carriages p q =
       rw (toOne-walk n links F s r ss at carriages) (walk-bound 1 (length s) (toOneStep n links F s r) (toOne-bound r) ss at carriages p q)
 
+  pub rows-bound : (ss : List ℕ) (r a c : ℕ) → a ≤ length s → c ≤ 1 * a → Bound 1 (length s) (rowStep n links F s ss r a c)
+  unfolding rowStep
+  rows-bound ss r a c p q = row-bound r ss a c p q
+
   pub pairs-bound : (ss rs : List ℕ) (at carriages : ℕ) → at ≤ length s → carriages ≤ 1 * at
       → Bound 1 (length s) (checkGroups n links F s (pairs ss rs) at carriages)
   pairs-bound ss rs at carriages p q =
-      rw (pairs-walk n links F s ss rs at carriages) (walk-bound 1 (length s) _ (λ r a c p′ q′. row-bound r ss a c p′ q′) rs at carriages p q)
+      rw (pairs-walk n links F s ss rs at carriages) (walk-bound 1 (length s) (rowStep n links F s ss) (rows-bound ss) rs at carriages p q)
 
   report-bound : (f : ℕ) → f < 256 → (k a c : ℕ) → a ≤ length s → c ≤ 256 * a → Bound 256 (length s) (reportStep n links F s f k a c)
   unfolding reportStep width
@@ -98,13 +126,13 @@ module _ (n : ℕ) (links : Links) (F : ℕ) (s : List ℕ) where
   unfolding width
   inward-bound f A S at p =
       rw (groups-append n links F s (fan f 0x11 A (members (minus S A))) (pairs (members S) (members S)) at 0)
-      (then-bound 1 (length s) _ _ (fan-bound f 0x11 A refl (members (minus S A)) at 0 p (omega arith)) (λ a c p′ q′. pairs-bound (members S) (members S) a c p′ q′))
+      (then-bound 1 (length s) (checkGroups n links F s (fan f 0x11 A (members (minus S A))) at 0) (λ (a c : ℕ). checkGroups n links F s (pairs (members S) (members S)) a c) (fan-bound f 0x11 A refl (members (minus S A)) at 0 p (omega arith)) (λ a c p′ q′. pairs-bound (members S) (members S) a c p′ q′))
 
   pub routes-bound : (f A S at : ℕ) → at ≤ length s → Bound 1 (length s) (checkGroups n links F s (routesDue n f F A S) at 0)
   unfolding routesDue width
   routes-bound f A S at p =
       rw (groups-append n links F s (fan f 0x11 A (members (minus S A)) ++ pairs (members S) (members S)) (fan f 0x13 S (members (minus (minus (full n) F) S))) at 0)
-      (then-bound 1 (length s) _ _ (inward-bound f A S at p) (λ a c p′ q′. fan-bound f 0x13 S refl (members (minus (minus (full n) F) S)) a c p′ q′))
+      (then-bound 1 (length s) (checkGroups n links F s (fan f 0x11 A (members (minus S A)) ++ pairs (members S) (members S)) at 0) (λ (a c : ℕ). checkGroups n links F s (fan f 0x13 S (members (minus (minus (full n) F) S))) a c) (inward-bound f A S at p) (λ a c p′ q′. fan-bound f 0x13 S refl (members (minus (minus (full n) F) S)) a c p′ q′))
 
 module _ (n f : ℕ) (links : Links) (h : f < 256) where
   pub block-bound : (s : List ℕ) (d : DueBlock) → Bound 256 (length s) (checkBlock n f links s d)
@@ -114,7 +142,7 @@ module _ (n f : ℕ) (links : Links) (h : f < 256) where
       (λ e g. let z = whole-command s 0 4 e (ap width g) in
       by-cond (Bound 256 (length s)) (eqb (getD s 1 0) (d .faults) && (eqb (getD s 2 0) (d .part) || eqb (getD s 2 0) (minus (minus (full n) (d .faults)) (d .part)))) _ _
       (λ t. by-cond (Bound 256 (length s)) (not (eqb (getD s 3 0) 0) && within (getD s 3 0) (minus (full n) (d .faults))) _ _
-      (λ u. then-bound 256 (length s) _ _ (bound-more (length s) _ (routes-bound n links (getD s 1 0) s f (getD s 2 0) (getD s 3 0) 4 (omega arith))) (λ a c p q. reports-bound n links (getD s 1 0) s f h (members (getD s 1 0)) a c p q))
+      (λ u. then-bound 256 (length s) (checkGroups n links (getD s 1 0) s (routesDue n f (getD s 1 0) (getD s 2 0) (getD s 3 0)) 4 0) (λ (a c : ℕ). checkReports n f links (getD s 1 0) s (members (getD s 1 0)) a c) (bound-more (length s) (checkGroups n links (getD s 1 0) s (routesDue n f (getD s 1 0) (getD s 2 0) (getD s 3 0)) 4 0) (routes-bound n links (getD s 1 0) s f (getD s 2 0) (getD s 3 0) 4 (omega arith))) (λ a c p q. reports-bound n links (getD s 1 0) s f h (members (getD s 1 0)) a c p q))
       (λ u. (omega arith, omega arith)))
       (λ t. (omega arith, omega arith)))
 
@@ -124,7 +152,7 @@ module _ (n f : ℕ) (links : Links) (h : f < 256) where
 
   pub step-bound : (s : List ℕ) (F p at carriages : ℕ) → at ≤ length s → carriages ≤ 256 * at → Bound 256 (length s) (blockStep n f links s F p at carriages)
   unfolding blockStep
-  step-bound s F p at carriages x y = onward-bound s at carriages _ x y (block-bound (drop at s) (record { faults = F; part = p }))
+  step-bound s F p at carriages x y = onward-bound s at carriages (checkBlock n f links (drop at s) (record { faults = F; part = p })) x y (block-bound (drop at s) (record { faults = F; part = p }))
 
   pub cuts-bound : (s : List ℕ) (F : ℕ) (ps : List ℕ) (at carriages : ℕ) → at ≤ length s → carriages ≤ 256 * at
       → Bound 256 (length s) (checkBlocks n f links s (blocksOf F ps) at carriages)

@@ -12,12 +12,15 @@ use native.Mathlib.Omega.{arith}
 use lib.ListN.{getD, drop}
 use lib.Dec.{eqb}
 use Rattle.facts.proofs.Bools.{cases}
+use Rattle.refusal.specs.Refused.{planRefusal, numberOf, placeOf}
+use Rattle.refusal.specs.declared.PlanGround.{PlanGround}
 use Rattle.sets.specs.Sets.{Set, single, minus, full}
 use Rattle.network.specs.Links.{Links}
 use Rattle.plan.specs.Members.{listFrom}
 use Rattle.plan.specs.Due.{DueBlock, Group, isPart, blocksOf, blocksOfAll, fan, toOne, pairs}
 use Rattle.plan.specs.Check.{Progress, reached, stopped, andThen, onward, isCut, isDue, isReport, checkGroup, checkGroups, checkReports, checkBlock, checkBlocks}
-use Rattle.plan.specs.Answers.{groupOf}
+use Rattle.plan.specs.Answers.{progressOf, groupOf}
+use Rattle.plan.specs.declared.check.Progress as Code
 use Rattle.plan.proofs.Joins.{then-same, groups-append, blocks-append}
 
 unfoldable pub walk : (ℕ → ℕ → ℕ → Progress) → List ℕ → (at carriages : ℕ) → Progress
@@ -65,16 +68,28 @@ module _ (step : ℕ → ℕ → ℕ → Progress) (limit : ℕ) (p : Set) (whol
       pub walk-goes : (a c : ℕ) → x ≡ reached a c → walk step (listFrom (limit - (i + 1)) (i + 1) p) a c ≡ whole
       walk-goes a c r = rw r at now
 
+      -- the same for the code's progress
+
+      module _ (y : Code.Progress) (z : progressOf y ≡ x) where
+        pub walk-halts : (g : PlanGround) → y ≡ Code.Progress.Stopped g → progressOf (Code.Progress.Stopped g) ≡ whole
+        walk-halts g r = walk-stops (numberOf (planRefusal g)) (placeOf (planRefusal g)) (sym z ∙ ap progressOf r)
+
+        pub walk-moves : (a c : ℕ) → y ≡ Code.Progress.Reached a c → walk step (listFrom (limit - (i + 1)) (i + 1) p) a c ≡ whole
+        walk-moves a c r = walk-goes a c (sym z ∙ ap progressOf r)
+
 -- lists of groups
 
 module _ (n : ℕ) (links : Links) (F : ℕ) (s : List ℕ) where
+  -- the step of a receiver: its f + 1 routes
+  unfoldable pub fanStep : (f command sources : ℕ) → ℕ → ℕ → ℕ → Progress
+  fanStep f command sources r a c = checkGroup n links F s (groupOf command sources r (f + 1)) (f + 1) a c 0
+
   pub fan-walk : (f command sources : ℕ) (rs : List ℕ) (at carriages : ℕ)
-      → checkGroups n links F s (fan f command sources rs) at carriages
-      ≡ walk (λ (r a c : ℕ). checkGroup n links F s (groupOf command sources r (f + 1)) (f + 1) a c 0) rs at carriages
-  unfolding checkGroups fan walk
+      → checkGroups n links F s (fan f command sources rs) at carriages ≡ walk (fanStep f command sources) rs at carriages
+  unfolding checkGroups fan walk fanStep
   fan-walk f command sources [] at carriages = refl
   fan-walk f command sources (r ∷ rs) at carriages =
-      then-same (checkGroup n links F s (groupOf command sources r (f + 1)) (f + 1) at carriages 0) (λ (a c : ℕ). checkGroups n links F s (fan f command sources rs) a c) (λ (a c : ℕ). walk (λ (r′ a′ c′ : ℕ). checkGroup n links F s (groupOf command sources r′ (f + 1)) (f + 1) a′ c′ 0) rs a c) (fan-walk f command sources rs)
+      then-same (checkGroup n links F s (groupOf command sources r (f + 1)) (f + 1) at carriages 0) (λ (a c : ℕ). checkGroups n links F s (fan f command sources rs) a c) (λ (a c : ℕ). walk (fanStep f command sources) rs a c) (fan-walk f command sources rs)
 
   -- the step of a source: none where it is the receiver itself
   unfoldable pub toOneStep : ℕ → ℕ → ℕ → ℕ → Progress
@@ -89,13 +104,17 @@ module _ (n : ℕ) (links : Links) (F : ℕ) (s : List ℕ) where
       (λ e. rw e (toOne-walk r ss at carriages))
       (λ e. rw e (then-same (checkGroup n links F s (groupOf 0x12 (single x) r 1) 1 at carriages 0) (λ (a c : ℕ). checkGroups n links F s (toOne r ss) a c) (λ (a c : ℕ). walk (toOneStep r) ss a c) (toOne-walk r ss)))
 
+  -- the step of a receiver: a route from each other server
+  unfoldable pub rowStep : List ℕ → ℕ → ℕ → ℕ → Progress
+  rowStep ss r a c = checkGroups n links F s (toOne r ss) a c
+
   pub pairs-walk : (ss rs : List ℕ) (at carriages : ℕ)
-      → checkGroups n links F s (pairs ss rs) at carriages ≡ walk (λ (r a c : ℕ). checkGroups n links F s (toOne r ss) a c) rs at carriages
-  unfolding checkGroups pairs walk
+      → checkGroups n links F s (pairs ss rs) at carriages ≡ walk (rowStep ss) rs at carriages
+  unfolding checkGroups pairs walk rowStep
   pairs-walk ss [] at carriages = refl
   pairs-walk ss (r ∷ rs) at carriages =
       groups-append n links F s (toOne r ss) (pairs ss rs) at carriages
-      ∙ then-same (checkGroups n links F s (toOne r ss) at carriages) (λ (a c : ℕ). checkGroups n links F s (pairs ss rs) a c) (λ (a c : ℕ). walk (λ (r′ a′ c′ : ℕ). checkGroups n links F s (toOne r′ ss) a′ c′) rs a c) (pairs-walk ss rs)
+      ∙ then-same (checkGroups n links F s (toOne r ss) at carriages) (λ (a c : ℕ). checkGroups n links F s (pairs ss rs) a c) (λ (a c : ℕ). walk (rowStep ss) rs a c) (pairs-walk ss rs)
 
   -- the step of a report to k
   unfoldable pub reportStep : ℕ → ℕ → ℕ → ℕ → Progress
