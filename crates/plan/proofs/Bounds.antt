@@ -22,7 +22,7 @@ use Rattle.plan.specs.Answers.{progressOf, groupOf}
 use Rattle.plan.specs.declared.check.Progress as Code
 use Rattle.plan.proofs.Groups.{whole-command}
 use Rattle.plan.proofs.Joins.{groups-append}
-use Rattle.plan.proofs.Walks.{walk, walk-skips, walk-moves, fanStep, fan-walk, toOneStep, toOne-walk, rowStep, pairs-walk, reportStep, reports-walk, blockStep, cuts-walk, faultStep, blocks-walk}
+use Rattle.plan.proofs.Walks.{walk, walk-skips, walk-goes, walk-moves, fanStep, fan-walk, toOneStep, toOne-walk, rowStep, pairs-walk, reportStep, reports-walk, blockStep, cuts-walk, faultStep, blocks-walk}
 
 abbrev pub Bound : (m limit : ℕ) → Progress → Type 0
 Bound m limit (reached at carriages) = (at ≤ limit) × (carriages ≤ m * at)
@@ -62,6 +62,11 @@ module _ (m len : ℕ) (step : ℕ → ℕ → ℕ → Progress) (limit : ℕ) (
   pub turn-skips : b ≡ false → at ≤ len → carriages ≤ m * at → at′ ≡ at → carriages′ ≡ carriages
       → (i + 1 ≤ limit) × (at′ ≤ len) × (carriages′ ≤ m * at′) × (walk step (listFrom (limit - (i + 1)) (i + 1) p) at′ carriages′ ≡ whole)
   turn-skips f x y q r = rw (q, r) (omega arith, x, y, walk-skips step limit p whole i at carriages so h b e f)
+
+  -- a step that stays where it is
+  pub turn-stays : b ≡ true → step i at carriages ≡ reached at carriages → at ≤ len → carriages ≤ m * at → at′ ≡ at → carriages′ ≡ carriages
+      → (i + 1 ≤ limit) × (at′ ≤ len) × (carriages′ ≤ m * at′) × (walk step (listFrom (limit - (i + 1)) (i + 1) p) at′ carriages′ ≡ whole)
+  turn-stays t z x y q r = rw (q, r) (omega arith, x, y, walk-goes step limit p whole i at carriages so h b e t (step i at carriages) refl at carriages z)
 
   pub turn-moves : b ≡ true → (y : Code.Progress) → progressOf y ≡ step i at carriages → Bound m len (step i at carriages)
       → (a c : ℕ) → y ≡ Code.Progress.Reached a c → at′ ≡ a → carriages′ ≡ c

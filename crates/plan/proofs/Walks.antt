@@ -11,6 +11,7 @@ use native.Mathlib.Numerals.{add-one}
 use native.Mathlib.Omega.{arith}
 use lib.ListN.{getD, drop}
 use lib.Dec.{eqb}
+use borrow.Author.Tests.{eq-eqb, ne-eqb}
 use Rattle.facts.proofs.Bools.{cases}
 use Rattle.refusal.specs.Refused.{planRefusal, numberOf, placeOf}
 use Rattle.refusal.specs.declared.PlanGround.{PlanGround}
@@ -94,6 +95,15 @@ module _ (n : ℕ) (links : Links) (F : ℕ) (s : List ℕ) where
   -- the step of a source: none where it is the receiver itself
   unfoldable pub toOneStep : ℕ → ℕ → ℕ → ℕ → Progress
   toOneStep r x a c = cond (eqb x r) (reached a c) (checkGroup n links F s (groupOf 0x12 (single x) r 1) 1 a c 0)
+
+  pub toOne-self : (r x a c : ℕ) → x ≡ r → toOneStep r x a c ≡ reached a c
+  unfolding toOneStep
+  toOne-self r x a c e = simp (eq-eqb x r e)
+
+  pub toOne-other : (r x a c : ℕ) → (x ≡ r → ⊥) → (one : ℕ) → one ≡ single x → (y : Progress)
+      → y ≡ checkGroup n links F s (groupOf 0x12 one r 1) 1 a c 0 → y ≡ toOneStep r x a c
+  unfolding toOneStep
+  toOne-other r x a c o one e y q = q ∙ ap (λ (z : ℕ). checkGroup n links F s (groupOf 0x12 z r 1) 1 a c 0) e ∙ sym (simp (ne-eqb x r o))
 
   pub toOne-walk : (r : ℕ) (ss : List ℕ) (at carriages : ℕ)
       → checkGroups n links F s (toOne r ss) at carriages ≡ walk (toOneStep r) ss at carriages
