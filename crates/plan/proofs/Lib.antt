@@ -5,6 +5,8 @@
 -- Joins       checks in a row
 -- Walks       loops over the members of a set, each taking the check one step on
 -- Bounds      places and carriages stay within the plan's length
+-- Reports     the reports of a block
+-- Cuts        the ways of cutting V−F and the blocks that are due, counted
 pub mod Counts
 pub mod Commands
 pub mod Paths
@@ -12,3 +14,5 @@ pub mod Groups
 pub mod Joins
 pub mod Walks
 pub mod Bounds
+pub mod Reports
+pub mod Cuts
