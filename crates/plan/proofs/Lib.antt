@@ -7,6 +7,7 @@
 -- Bounds      places and carriages stay within the plan's length
 -- Reports     the reports of a block
 -- Cuts        the ways of cutting V−F and the blocks that are due, counted
+-- Parts       the parts of a block, one after the other
 pub mod Counts
 pub mod Commands
 pub mod Paths
@@ -16,3 +17,4 @@ pub mod Walks
 pub mod Bounds
 pub mod Reports
 pub mod Cuts
+pub mod Parts
