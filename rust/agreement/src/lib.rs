@@ -1,16 +1,17 @@
-//! Safe functions over the proved library: the card reader and the split test.
+//! Safe functions over the proved library: the card reader, the split test and the
+//! plan check.
 //!
 //! The library is written and proved in Rattle and linked as a static archive; its
 //! contracts, not this crate, say why the answers are right. What is done here is
-//! to hand the card over as pointer and length, and to put the numbers that come
-//! back into the types of the crate `reference`, so that both implementations can
-//! be called, and compared, in the same way.
+//! to hand card and plan over as pointer and length, and to put the numbers that
+//! come back into the types of the crate `reference`, so that both implementations
+//! can be called, and compared, in the same way.
 //!
 //! This is the only crate of the workspace with `unsafe` in it, one call a block.
 
 #![deny(unsafe_op_in_unsafe_fn)]
 
-use reference::{Network, Refusal, Split};
+use reference::{Network, Refusal, Split, Totals};
 
 /// The exported functions of `libagreement.a`, as its C declarations give them.
 mod library {
@@ -24,6 +25,15 @@ mod library {
         /// Writes {0, 0, 0, 0, 0} for no bad split, {1, F, L, C, R} for the first
         /// one, or {2, whose, number, place, 0} for a refusal.
         pub fn agreement_split_test(card: *const u8, length: usize, answer: *mut [u64; 5]);
+
+        /// Writes {0, blocks, carriages, 0}, or {2, whose, number, place} for a refusal.
+        pub fn agreement_check_plan(
+            card: *const u8,
+            card_length: usize,
+            plan: *const u8,
+            plan_length: usize,
+            answer: *mut [u64; 4],
+        );
     }
 }
 
@@ -37,6 +47,11 @@ const REFUSED: u64 = 2;
 const OF_CARD: u64 = 0;
 const OF_PLAN: u64 = 1;
 const OF_CALL: u64 = 2;
+
+/// No network has more blocks than one of eight servers and two faults.
+const MOST_BLOCKS: u64 = 1_499;
+/// A plan's bytes at most, and so its carriages: none takes less than a byte.
+const PLAN_LIMIT: u64 = 1_048_576;
 
 /// Lent answers start out as this, which no answer holds: a number that the library
 /// left unwritten would be noticed.
@@ -91,6 +106,35 @@ pub fn split_test(card: &[u8]) -> Result<Option<Split>, Refusal> {
         .unwrap_or_else(|| panic!("the split test cannot answer {answer:?} on {card:02x?}"))
 }
 
+/// Answers with the number of blocks and of carriages of `plan` if it is a sound
+/// plan for the network on `card`, or with the first fault: those of the card come
+/// before those of the plan.
+///
+/// Any bytes of any length are answered. A plan is accepted exactly if it has one
+/// block for each F and each way of cutting V - F, in order, and every set and every
+/// route in them keeps its rules; else the refusal is the one ground and place that
+/// a check from the front meets first.
+pub fn check_plan(card: &[u8], plan: &[u8]) -> Result<Totals, Refusal> {
+    let mut answer = [UNWRITTEN; 4];
+    // SAFETY: each pointer and length are those of one live slice, which is only
+    // read; an empty slice's pointer is not null either. `answer` is lent for the
+    // call alone and nothing else refers to it.
+    unsafe {
+        library::agreement_check_plan(
+            card.as_ptr(),
+            card.len(),
+            plan.as_ptr(),
+            plan.len(),
+            &mut answer,
+        )
+    };
+    // A plan may be too long to be shown.
+    totals_or_refusal(answer).unwrap_or_else(|| {
+        let length = plan.len();
+        panic!("the plan check cannot answer {answer:?} on {length} bytes for {card:02x?}")
+    })
+}
+
 /// What the card reader's numbers say; `None` if its contract rules them out.
 fn size_or_refusal(answer: [u64; 4]) -> Option<Result<(u8, u8), Refusal>> {
     match answer {
@@ -111,6 +155,20 @@ fn split_or_refusal(answer: [u64; 5]) -> Option<Result<Option<Split>, Refusal>> 
             r: u8::try_from(r).ok()?,
         }))),
         [REFUSED, whose, number, place, 0] => Some(Err(refusal(whose, number, place)?)),
+        _ => None,
+    }
+}
+
+/// What the plan check's numbers say; `None` if its contract rules them out.
+fn totals_or_refusal(answer: [u64; 4]) -> Option<Result<Totals, Refusal>> {
+    match answer {
+        [ACCEPTED, blocks @ 1..=MOST_BLOCKS, carriages @ 1..=PLAN_LIMIT, 0] => Some(Ok(Totals {
+            blocks: usize::try_from(blocks).ok()?,
+            carriages: usize::try_from(carriages).ok()?,
+        })),
+        [REFUSED, whose @ (OF_CARD | OF_PLAN), number, place] => {
+            Some(Err(refusal(whose, number, place)?))
+        }
         _ => None,
     }
 }
@@ -152,6 +210,13 @@ mod tests {
             place: 4,
         };
         assert_eq!(refusal(1, 7, 4), Some(of_plan));
+        let totals = Totals {
+            blocks: 19,
+            carriages: 230,
+        };
+        assert_eq!(totals_or_refusal([0, 19, 230, 0]), Some(Ok(totals)));
+        assert_eq!(totals_or_refusal([2, 0, 6, 87]), Some(Err(of_card)));
+        assert_eq!(totals_or_refusal([2, 1, 7, 4]), Some(Err(of_plan)));
         assert_eq!(refusal(2, 13, 0), Some(Refusal::Call { number: 13 }));
     }
 
@@ -179,20 +244,54 @@ mod tests {
         ] {
             assert_eq!(split_or_refusal(answer), None, "{answer:?}");
         }
+        for answer in [
+            [UNWRITTEN; 4],
+            [0, 1, UNWRITTEN, 0],
+            [0, UNWRITTEN, 1, 0],
+            [0, 0, 1, 0],
+            [0, 1, 0, 0],
+            [0, 1, 1, 1],
+            [1, 1, 1, 0],
+            [2, 2, 13, 0],
+            [2, 3, 7, 4],
+            [2, 1, 256, 4],
+        ] {
+            assert_eq!(totals_or_refusal(answer), None, "{answer:?}");
+        }
     }
+
+    /// The card of P1: two servers, no faults, one link from 0 to 1.
+    const P1: [u8; 7] = [0x01, 0x02, 0x00, 0x02, 0x00, 0x01, 0x03];
 
     #[test]
     fn small_networks_of_the_paper() {
-        let p1 = [0x01, 0x02, 0x00, 0x02, 0x00, 0x01, 0x03];
-        assert_eq!(read_size(&p1), Ok((2, 0)));
-        assert!(linked(&p1, 0, 1) && !linked(&p1, 1, 0));
-        assert_eq!(split_test(&p1), Ok(None));
+        assert_eq!(read_size(&P1), Ok((2, 0)));
+        assert!(linked(&P1, 0, 1) && !linked(&P1, 1, 0));
+        assert_eq!(split_test(&P1), Ok(None));
         let empty = Refusal::Card {
             number: 2,
             place: 0,
         };
         assert_eq!(read_card(&[]), Err(empty));
         assert_eq!(split_test(&[]), Err(empty));
+        assert_eq!(check_plan(&[], &[]), Err(empty));
         assert!(!linked(&[], 0, 1));
+    }
+
+    #[test]
+    fn small_plans_of_the_paper() {
+        let mut p5 = [0xff; 14];
+        p5[..7].copy_from_slice(&[0x10, 0x00, 0x01, 0x01, 0x13, 0x00, 0x01]);
+        p5[13] = 0x15;
+        let totals = Totals {
+            blocks: 1,
+            carriages: 1,
+        };
+        assert_eq!(check_plan(&P1, &p5), Ok(totals));
+        let mut p6 = p5;
+        p6[2] = 0x02;
+        let refused = |number, place| Err(Refusal::Plan { number, place });
+        assert_eq!(check_plan(&P1, &p6), refused(7, 4));
+        assert_eq!(check_plan(&P1, &[]), refused(2, 0));
     }
 }

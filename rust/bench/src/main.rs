@@ -1,4 +1,5 @@
-//! Times of the proved library beside those of the reference, on a few cards.
+//! Times of the proved library beside those of the reference, on a few cards and
+//! plans.
 //!
 //! ```text
 //! cargo run --release -p bench
@@ -11,8 +12,8 @@
 
 mod cards;
 mod clock;
+mod plans;
 
-use cards::Case;
 use clock::{nanoseconds_per_call, ROUNDS};
 use std::hint::black_box;
 use std::process;
@@ -29,11 +30,15 @@ fn main() {
     for case in &cases {
         case.assert_answers();
     }
+    let plans = plans::cases();
+    for case in &plans {
+        case.assert_answers();
+    }
     println!();
     heading("split test");
     for case in &cases {
         row(
-            case,
+            case.name,
             || agreement::split_test(black_box(&case.card)),
             || reference::split_test(black_box(&case.card)),
         );
@@ -44,9 +49,18 @@ fn main() {
     heading("card reader");
     for case in &cases {
         row(
-            case,
+            case.name,
             || agreement::read_size(black_box(&case.card)),
             || reference::read_card(black_box(&case.card)),
+        );
+    }
+    println!();
+    heading("plan check");
+    for case in &plans {
+        row(
+            case.name,
+            || agreement::check_plan(black_box(&case.card), black_box(&case.plan)),
+            || reference::check_plan(black_box(&case.card), black_box(&case.plan)),
         );
     }
 }
@@ -58,11 +72,10 @@ fn heading(function: &str) {
     );
 }
 
-fn row<A, B>(case: &Case, ours: impl Fn() -> A, reference: impl Fn() -> B) {
+fn row<A, B>(name: &str, ours: impl Fn() -> A, reference: impl Fn() -> B) {
     let (ours, reference) = nanoseconds_per_call(ours, reference);
     println!(
-        "{:<44} {ours:>10.1} {reference:>10.1} {:>15.3}",
-        case.name,
+        "{name:<44} {ours:>10.1} {reference:>10.1} {:>15.3}",
         ours / reference
     );
 }

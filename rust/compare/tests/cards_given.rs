@@ -2,7 +2,7 @@
 
 #[test]
 fn library_and_reference_answer_as_stated() {
-    let tally = compare::given_cards();
+    let tally = compare::cards::given_cards();
     println!("given: {tally}");
     assert_eq!(tally.cards(), 795);
     assert_eq!(tally.accepted(), 330);

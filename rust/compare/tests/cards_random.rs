@@ -2,7 +2,7 @@
 //!
 //! Each test fails at the first card on which they differ and shows it.
 
-use compare::Tally;
+use compare::cards::{self, Tally};
 
 const CARD_LIMIT: usize = 1_024;
 
@@ -14,7 +14,7 @@ fn assert_every_refusal(tally: &Tally, times: usize) {
 
 #[test]
 fn random_cards() {
-    let tally = compare::random_cards(0..300_000);
+    let tally = cards::random_cards(0..300_000);
     println!("random: {tally}");
     assert_eq!(tally.cards(), 300_000);
     assert_every_refusal(&tally, 100);
@@ -23,7 +23,7 @@ fn random_cards() {
 
 #[test]
 fn every_network_of_up_to_four_servers() {
-    let tally = compare::every_small_network();
+    let tally = cards::every_small_network();
     println!("small networks: {tally}");
     assert_eq!(tally.accepted(), 3 * ((1 << 2) + (1 << 6) + (1 << 12)));
 }
@@ -32,7 +32,7 @@ fn every_network_of_up_to_four_servers() {
 fn networks_of_every_density() {
     // The reference scans every split, and there are most of them for f 2.
     let rounds = |n, f| if n >= 7 && f == 2 { 40 } else { 80 };
-    let tally = compare::networks_of_every_density(rounds);
+    let tally = cards::networks_of_every_density(rounds);
     println!("every density: {tally}");
     assert_eq!(tally.accepted(), tally.cards());
     assert!(tally.with_bad_split >= 1_000 && tally.without_bad_split >= 1_000);
@@ -40,24 +40,24 @@ fn networks_of_every_density() {
 
 #[test]
 fn truncated_cards() {
-    let tally = compare::truncations();
+    let tally = cards::truncations();
     println!("truncated: {tally}");
     assert!(tally.refused[2] >= 1_000);
 }
 
 #[test]
 fn extended_cards() {
-    let tally = compare::extensions();
+    let tally = cards::extensions();
     println!("extended: {tally}");
     assert!(tally.refused[2..].iter().all(|&count| count >= 50));
 }
 
 #[test]
 fn cards_of_every_length_past_the_limit() {
-    let tally = compare::any_lengths(0..1_101);
+    let tally = cards::any_lengths(0..1_101);
     println!("every length: {tally}");
-    assert_eq!(tally.cards(), 1_101 * compare::CARDS_OF_A_LENGTH);
+    assert_eq!(tally.cards(), 1_101 * cards::CARDS_OF_A_LENGTH);
     // Too long are those past the limit, and no others.
-    let too_long = (1_100 - CARD_LIMIT) * compare::CARDS_OF_A_LENGTH;
+    let too_long = (1_100 - CARD_LIMIT) * cards::CARDS_OF_A_LENGTH;
     assert_eq!(tally.refused[1], too_long);
 }

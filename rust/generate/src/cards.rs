@@ -1,6 +1,7 @@
 //! Network cards, sound and damaged.
 
 use crate::rng::Rng;
+use reference::split_test;
 
 /// Command bytes of the card.
 const OPENING: u8 = 0x01;
@@ -76,6 +77,25 @@ pub fn network_card_with(rng: &mut Rng, n: u8, f: u8, count: usize) -> Vec<u8> {
     rng.shuffle(&mut links);
     links.truncate(count);
     card_of(n, f, &links)
+}
+
+/// A valid card of `n` servers and `f` faults whose network has no bad split, with a
+/// random part of the links; `None` if `n` is not over 3`f`, as there is none then.
+pub fn good_card(rng: &mut Rng, n: u8, f: u8) -> Option<Vec<u8>> {
+    let all = all_links(n).len();
+    // Each network with a bad split halves how many links the next one may lack.
+    let mut lacking = all;
+    loop {
+        let count = all - rng.between(0, lacking);
+        let card = network_card_with(rng, n, f, count);
+        if split_test(&card) == Ok(None) {
+            return Some(card);
+        }
+        if lacking == 0 {
+            return None;
+        }
+        lacking /= 2;
+    }
 }
 
 /// The card of `n` servers and `f` faults with every link there can be.
@@ -435,6 +455,25 @@ mod tests {
             assert!(read_card(&card).is_ok());
         }
         assert_eq!(link_count(&network_card_with(&mut rng, 2, 0, 9)), 2);
+    }
+
+    #[test]
+    fn good_cards_are_complete_or_lack_some_links() {
+        let mut rng = Rng::new(8);
+        for n in 2..=8u8 {
+            for f in 0..=2u8 {
+                let all = usize::from(n) * usize::from(n - 1);
+                let mut fewest = all;
+                for _ in 0..40 {
+                    let card = good_card(&mut rng, n, f);
+                    assert_eq!(card.is_some(), n > 3 * f, "n {n} f {f}");
+                    fewest = card.map_or(fewest, |card| fewest.min(link_count(&card)));
+                }
+                // Every server needs 2f+1 incoming links if f is not 0.
+                let some_may_lack = n > 3 * f && (n, f) != (4, 1);
+                assert_eq!(fewest < all, some_may_lack, "n {n} f {f}: {fewest}");
+            }
+        }
     }
 
     #[test]

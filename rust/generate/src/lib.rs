@@ -9,12 +9,16 @@
 mod calls;
 mod cards;
 mod damage;
+mod draft;
 mod plans;
 mod rng;
 mod routes;
 
 pub use calls::{faulty, inputs, table};
-pub use cards::{all_links, card, card_of, complete_card, network_card, network_card_with};
-pub use damage::damaged_plan;
-pub use plans::plan;
+pub use cards::{
+    all_links, card, card_of, complete_card, good_card, network_card, network_card_with,
+};
+pub use damage::{damaged_plan, Damage, DAMAGES};
+pub use draft::places;
+pub use plans::{broken_off_plan, plan, plan_like_bytes};
 pub use rng::Rng;

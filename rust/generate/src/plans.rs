@@ -25,15 +25,60 @@ pub(crate) const ROUTE_OPERAND: usize = 8;
 /// then one is found.
 pub fn plan(rng: &mut Rng, card: &[u8]) -> Option<Vec<u8>> {
     let network = read_card(card).ok()?;
-    let taste = Taste::draw(rng);
     let mut plan = Vec::new();
-    for fault_set in 0..=servers_of(&network) {
-        if fault_set.count_ones() <= u32::from(network.f) {
-            Planner::new(&network, fault_set, taste).blocks(rng, &mut plan)?;
-        }
-    }
+    blocks(rng, &network, &mut plan)?;
     plan.push(END);
     Some(plan)
+}
+
+/// As [`plan`], but where a block cannot be had, the plan ends before it, or before
+/// the first neighbour set that cannot be had. So there is something to check on
+/// networks without a plan too.
+pub fn broken_off_plan(rng: &mut Rng, card: &[u8]) -> Vec<u8> {
+    let mut plan = Vec::new();
+    if let Ok(network) = read_card(card) {
+        let _ = blocks(rng, &network, &mut plan);
+    }
+    plan.push(END);
+    plan
+}
+
+/// Appends all blocks of a plan, or as many as can be had before `None`.
+fn blocks(rng: &mut Rng, network: &Network, plan: &mut Vec<u8>) -> Option<()> {
+    let taste = Taste::draw(rng);
+    for fault_set in 0..=servers_of(network) {
+        if fault_set.count_ones() <= u32::from(network.f) {
+            Planner::new(network, fault_set, taste).blocks(rng, plan)?;
+        }
+    }
+    Some(())
+}
+
+/// Bytes that are hardly ever a plan: `sound`, which may be any plan, up to a random
+/// place, then random bytes of one kind.
+pub fn plan_like_bytes(rng: &mut Rng, sound: &[u8]) -> Vec<u8> {
+    let kept = match rng.below(4) {
+        0 => 0,
+        1 => sound.len().min(4),
+        _ => rng.between(0, sound.len()),
+    };
+    let mut bytes = sound[..kept].to_vec();
+    let kind = rng.below(4);
+    for _ in 0..rng.between(0, 60) {
+        let byte = match kind {
+            0 => rng.byte(),
+            1 => rng.between(0x0f, 0x16) as u8,
+            2 => rng.below(9) as u8,
+            // What a plan is made of, in any order.
+            _ => match rng.below(4) {
+                0 => rng.between(0x10, 0x15) as u8,
+                1 => FILL,
+                _ => rng.below(9) as u8,
+            },
+        };
+        bytes.push(byte);
+    }
+    bytes
 }
 
 /// V, the set of all servers.
@@ -243,7 +288,7 @@ mod tests {
     use super::*;
     use crate::calls::table;
     use crate::cards::{complete_card, network_card};
-    use reference::{check_plan, run, split_test};
+    use reference::{check_plan, run, split_test, Refusal};
 
     #[test]
     fn every_plan_is_accepted() {
@@ -286,6 +331,31 @@ mod tests {
                 }
             }
         }
+    }
+
+    #[test]
+    fn a_broken_off_plan_is_refused_where_it_breaks_off() {
+        let mut rng = Rng::new(9);
+        let (mut whole, mut broken, mut at_once) = (0, 0, 0);
+        for round in 0..300 {
+            let (n, f) = ((2 + round % 5) as u8, (round % 3) as u8);
+            let card = network_card(&mut rng, n, f);
+            let plan = broken_off_plan(&mut rng, &card);
+            let refusal = Refusal::Plan {
+                number: 7,
+                place: plan.len() - 1,
+            };
+            match check_plan(&card, &plan) {
+                Ok(_) => whole += 1,
+                Err(found) => {
+                    assert_eq!(found, refusal, "{card:02x?}");
+                    broken += usize::from(plan.len() > 1);
+                    at_once += usize::from(plan.len() == 1);
+                }
+            }
+        }
+        assert!(whole > 20 && broken > 20 && at_once > 20);
+        assert_eq!(broken_off_plan(&mut rng, &[]), [END]);
     }
 
     #[test]

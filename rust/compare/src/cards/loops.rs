@@ -1,6 +1,7 @@
 //! The cards on which library and reference are compared.
 
-use crate::tally::Tally;
+use super::tally::Tally;
+use crate::repeated;
 use generate::{all_links, card, card_of, complete_card, network_card, network_card_with, Rng};
 use std::ops::Range;
 
@@ -141,15 +142,4 @@ pub fn any_lengths(lengths: Range<usize>) -> Tally {
         }
     }
     tally
-}
-
-/// `start`, then `bytes` over and over, up to `length` bytes.
-fn repeated(start: &[u8], bytes: &[u8], length: usize) -> Vec<u8> {
-    let over_and_over = bytes.iter().cycle();
-    start
-        .iter()
-        .chain(over_and_over)
-        .take(length)
-        .copied()
-        .collect()
 }

@@ -1,9 +1,10 @@
 //! The cases of `data/cards.tsv`, whose answers neither implementation made.
 
-use crate::answers::{hex, Answers};
-use crate::tally::Tally;
+use super::answers::Answers;
+use super::tally::Tally;
+use crate::text::{cases, hex, unhex};
 
-const CARDS: &str = include_str!("../data/cards.tsv");
+const CARDS: &str = include_str!("../../data/cards.tsv");
 
 /// One line of the file.
 struct Case {
@@ -18,8 +19,7 @@ struct Case {
 /// Panics at the first answer that is not the one stated.
 pub fn given_cards() -> Tally {
     let mut tally = Tally::default();
-    let lines = CARDS.lines().filter(|line| !line.starts_with('#'));
-    for case in lines.map(parse) {
+    for case in cases(CARDS).map(parse) {
         check("library", &case, &Answers::of_library(&case.card));
         check("reference", &case, &Answers::of_reference(&case.card));
         // They are alike by now; this counts, and looks at links that cannot be.
@@ -39,29 +39,14 @@ fn check(who: &str, case: &Case, answers: &Answers) {
     );
 }
 
-fn parse(line: &'static str) -> Case {
-    let fields: Vec<&str> = line.split('\t').collect();
+fn parse(fields: Vec<&'static str>) -> Case {
     let [note, card, read, split] = fields[..] else {
-        panic!("a case has four fields: {line}");
+        panic!("a case has four fields: {fields:?}");
     };
     Case {
         note,
-        card: unhex(card).unwrap_or_else(|| panic!("no card in hexadecimal: {line}")),
+        card: unhex(card),
         read,
         split,
     }
-}
-
-fn unhex(digits: &str) -> Option<Vec<u8>> {
-    let pairs = digits.as_bytes().chunks(2);
-    pairs
-        .map(|pair| match pair {
-            [high, low] => Some(digit(*high)? << 4 | digit(*low)?),
-            _ => None,
-        })
-        .collect()
-}
-
-fn digit(character: u8) -> Option<u8> {
-    Some(char::from(character).to_digit(16)? as u8)
 }

@@ -1,11 +1,12 @@
 //! What an implementation answers on one card, and how that is written down.
 
+use crate::text::plain_refusal;
 use reference::{Network, Refusal, Split};
 use std::fmt::{self, Display, Formatter};
 
 /// Both answers on one card, links included.
 #[derive(Debug, Clone, Copy, PartialEq, Eq)]
-pub(crate) struct Answers {
+pub(super) struct Answers {
     pub read: Result<Network, Refusal>,
     pub split: Result<Option<Split>, Refusal>,
 }
@@ -60,17 +61,4 @@ fn plain_network(network: &Network) -> String {
         }
     }
     plain
-}
-
-fn plain_refusal(refusal: Refusal) -> String {
-    match refusal {
-        Refusal::Card { number, place } => format!("refused card {number} {place}"),
-        Refusal::Plan { number, place } => format!("refused plan {number} {place}"),
-        Refusal::Call { number } => format!("refused call {number}"),
-    }
-}
-
-/// `bytes` in hexadecimal, two digits each.
-pub(crate) fn hex(bytes: &[u8]) -> String {
-    bytes.iter().map(|byte| format!("{byte:02x}")).collect()
 }

@@ -1,6 +1,7 @@
 //! Comparing the two implementations on one card, and counting what they answer.
 
-use crate::answers::{hex, Answers};
+use super::answers::Answers;
+use crate::text::hex;
 use reference::Refusal;
 use std::fmt::{self, Arguments, Display, Formatter};
 
@@ -27,7 +28,7 @@ impl Tally {
     /// Asks the library and the reference about `card` and counts the answer.
     ///
     /// Panics if they differ; `made_by` then says how to get the card again.
-    pub(crate) fn compare(&mut self, card: &[u8], made_by: Arguments) {
+    pub(super) fn compare(&mut self, card: &[u8], made_by: Arguments) {
         let library = Answers::of_library(card);
         let reference = Answers::of_reference(card);
         if library != reference {

@@ -1,0 +1,73 @@
+//! The plans to be timed: accepted ones for complete networks, and one that is
+//! refused at the last command before its end.
+
+use generate::{complete_card, places, plan, Rng};
+use reference::{Refusal, Totals};
+
+/// The command 14 of a plan.
+const NEIGHBOURS: u8 = 0x14;
+
+/// A plan with its card, a name for the table and the plan check's answer on it.
+pub struct Case {
+    pub name: &'static str,
+    pub card: Vec<u8>,
+    pub plan: Vec<u8>,
+    answer: Result<Totals, Refusal>,
+}
+
+impl Case {
+    /// Times of wrong answers would be worth nothing.
+    pub fn assert_answers(&self) {
+        let library = agreement::check_plan(&self.card, &self.plan);
+        assert_eq!(library, self.answer, "library on {}", self.name);
+        let reference = reference::check_plan(&self.card, &self.plan);
+        assert_eq!(reference, self.answer, "reference on {}", self.name);
+    }
+}
+
+pub fn cases() -> Vec<Case> {
+    let (small_card, small) = planned(5, 1);
+    let (large_card, large) = planned(8, 2);
+    let (refused, place) = refused_late(&large);
+    vec![
+        Case {
+            name: "n 5 f 1, 50 blocks, 4,896 bytes",
+            card: small_card,
+            plan: small,
+            answer: accepted(50, 580),
+        },
+        Case {
+            name: "n 8 f 2, 1,499 blocks, 342,243 bytes",
+            card: large_card.clone(),
+            plan: large,
+            answer: accepted(1_499, 43_334),
+        },
+        Case {
+            name: "n 8 f 2, the same refused at its last N",
+            card: large_card,
+            plan: refused,
+            answer: Err(Refusal::Plan { number: 11, place }),
+        },
+    ]
+}
+
+fn accepted(blocks: usize, carriages: usize) -> Result<Totals, Refusal> {
+    Ok(Totals { blocks, carriages })
+}
+
+/// The complete network and a random plan for it, always the same one, in which all
+/// commands come up.
+fn planned(n: u8, f: u8) -> (Vec<u8>, Vec<u8>) {
+    let card = complete_card(n, f);
+    let plan = plan(&mut Rng::new(2), &card).expect("n is over 3f");
+    (card, plan)
+}
+
+/// `plan` with an empty N in its last 14 command, and the place of that command.
+fn refused_late(plan: &[u8]) -> (Vec<u8>, usize) {
+    let mut refused = plan.to_vec();
+    let sets = places(plan, &[NEIGHBOURS]);
+    let place = *sets.last().expect("f is not 0");
+    refused[place + 2] = 0;
+    (refused, place)
+}

@@ -1,0 +1,13 @@
+//! The card reader and the split test.
+
+mod answers;
+mod given;
+mod loops;
+mod tally;
+
+pub use given::given_cards;
+pub use loops::{
+    any_lengths, every_small_network, extensions, networks_of_every_density, random_cards,
+    truncations, CARDS_OF_A_LENGTH,
+};
+pub use tally::Tally;

@@ -1,0 +1,12 @@
+//! The plan check.
+
+mod given;
+mod loops;
+mod tally;
+
+pub use given::given_plans;
+pub use loops::{
+    any_cards, around_the_limit, broken_off_plans, damaged_plans, every_byte, every_neighbours,
+    every_opening, every_short_route, other_cards, plan_like_bytes, truncations, PLAN_LIMIT,
+};
+pub use tally::{Damages, Tally};

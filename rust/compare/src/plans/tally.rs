@@ -1,0 +1,146 @@
+//! Comparing the two implementations on one plan, and counting what they answer.
+
+use crate::text::{hex, hex_beginning, plain_refusal};
+use generate::DAMAGES;
+use reference::{Refusal, Totals};
+use std::fmt::{self, Arguments, Display, Formatter};
+
+/// What the plan check answers.
+pub(super) type Answer = Result<Totals, Refusal>;
+
+/// The plan check's answer in the plain form of `data/plans.tsv`.
+pub(super) fn plain(answer: Answer) -> String {
+    match answer {
+        Ok(Totals { blocks, carriages }) => format!("ok {blocks} {carriages}"),
+        Err(refusal) => plain_refusal(refusal),
+    }
+}
+
+/// How often each answer was met.
+#[derive(Debug, Clone, Default)]
+pub struct Tally {
+    /// Accepted plans.
+    pub accepted: usize,
+    /// Calls with a refused card by the refusal's number, 1 to 6; there is no number 0.
+    pub card_refused: [usize; 7],
+    /// Refused plans by the refusal's number; 4 to 6 are no numbers of a plan.
+    pub plan_refused: [usize; 12],
+}
+
+impl Tally {
+    pub fn plans(&self) -> usize {
+        let refused = self.card_refused.iter().chain(&self.plan_refused);
+        self.accepted + refused.sum::<usize>()
+    }
+
+    pub fn add(&mut self, other: &Tally) {
+        self.accepted += other.accepted;
+        for (count, more) in self.card_refused.iter_mut().zip(other.card_refused) {
+            *count += more;
+        }
+        for (count, more) in self.plan_refused.iter_mut().zip(other.plan_refused) {
+            *count += more;
+        }
+    }
+
+    /// Asks the library and the reference about `plan` for `card`, counts the answer
+    /// and hands it back.
+    ///
+    /// Panics if they differ; `made_by` then says how to get the plan again.
+    pub(super) fn compare(&mut self, card: &[u8], plan: &[u8], made_by: Arguments) -> Answer {
+        let library = agreement::check_plan(card, plan);
+        let reference = reference::check_plan(card, plan);
+        if library != reference {
+            panic!(
+                "library and reference differ\n  card       {}\n  plan       {}\
+                 \n  made by    {made_by}\n  library    {}\n  reference  {}",
+                hex(card),
+                hex_beginning(plan),
+                plain(library),
+                plain(reference)
+            );
+        }
+        match reference {
+            Ok(_) => self.accepted += 1,
+            Err(Refusal::Card { number, .. }) => self.card_refused[usize::from(number)] += 1,
+            Err(Refusal::Plan { number, .. }) => self.plan_refused[usize::from(number)] += 1,
+            Err(other) => panic!("not a refusal of card or plan: {other:?}"),
+        }
+        reference
+    }
+}
+
+impl Display for Tally {
+    fn fmt(&self, out: &mut Formatter) -> fmt::Result {
+        write!(
+            out,
+            "{} plans, {} accepted, card refused 1 to 6: {:?}, plan refused 1 to 3: {:?}, 7 to 11: {:?}",
+            self.plans(),
+            self.accepted,
+            &self.card_refused[1..],
+            &self.plan_refused[1..4],
+            &self.plan_refused[7..]
+        )
+    }
+}
+
+/// How often each damage was done to a plan, and how often it brought the refusal
+/// that it is meant to bring.
+#[derive(Debug, Clone)]
+pub struct Damages {
+    made: [usize; DAMAGES.len()],
+    met: [usize; DAMAGES.len()],
+}
+
+impl Default for Damages {
+    fn default() -> Damages {
+        Damages {
+            made: [0; DAMAGES.len()],
+            met: [0; DAMAGES.len()],
+        }
+    }
+}
+
+impl Damages {
+    pub fn add(&mut self, other: &Damages) {
+        for index in 0..DAMAGES.len() {
+            self.made[index] += other.made[index];
+            self.met[index] += other.met[index];
+        }
+    }
+
+    /// Counts one plan that had the damage of that index done to it.
+    pub(super) fn count(&mut self, index: usize, answer: Answer) {
+        self.made[index] += 1;
+        let as_meant = match (DAMAGES[index].meant, answer) {
+            (Some(due), Err(Refusal::Plan { number, .. })) => number == due,
+            (meant, _) => meant.is_none(),
+        };
+        self.met[index] += usize::from(as_meant);
+    }
+
+    /// The damages that brought what they are meant to bring fewer than `times`
+    /// times; one that is left to chance counts whatever it brings.
+    pub fn seldom(&self, times: usize) -> Vec<&'static str> {
+        let damages = DAMAGES.iter().zip(self.met);
+        let seldom = damages.filter(|&(_, met)| met < times);
+        seldom.map(|(damage, _)| damage.name).collect()
+    }
+}
+
+impl Display for Damages {
+    fn fmt(&self, out: &mut Formatter) -> fmt::Result {
+        for (index, damage) in DAMAGES.iter().enumerate() {
+            let (made, met) = (self.made[index], self.met[index]);
+            match damage.meant {
+                Some(due) => writeln!(
+                    out,
+                    "  {:<31} {made:>6}, {met:>6} refused {due}",
+                    damage.name
+                )?,
+                None => writeln!(out, "  {:<31} {made:>6}", damage.name)?,
+            }
+        }
+        Ok(())
+    }
+}
