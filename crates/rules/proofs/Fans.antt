@@ -22,7 +22,8 @@ use Rattle.rules.specs.Blocks.{Route, sourceOf, receiverOf, encodeRoutes
 use Rattle.rules.specs.Rules.{Each, IsRoute, AllSeparate, repeated, Fan}
 use Rattle.rules.proofs.Lists.{listed-in, length-members}
 use Rattle.rules.proofs.Spans.{Span, span-append, span-left, span-right}
-use Rattle.rules.proofs.Groups.{reached-place, reached-carriages, then-reached, cut-map, each-append, separate-append, separate-left, separate-right, routes-length, routes-append, encode-append, encode-long, OfGroup, group-forward, group-backward}
+use Rattle.rules.proofs.Progress.{reached-same, then-forward}
+use Rattle.rules.proofs.Groups.{cut-map, each-append, separate-append, separate-left, separate-right, routes-length, routes-append, encode-append, encode-long, OfGroup, group-forward, group-backward}
 
 -- no number stands twice
 abbrev pub Different : List ℕ → Type 0
@@ -127,7 +128,7 @@ module _ (n f : ℕ) (links : Links) (F : ℕ) (few : n ≤ 8) (s : List ℕ) wh
 
     fan-none : (at c a c′ : ℕ) → checkGroups n links F s (fan f command sources []) at c ≡ reached a c′ → (at ≡ a) × (c ≡ c′)
     unfolding fan checkGroups
-    fan-none at c a c′ e = (reached-place at c a c′ e, reached-carriages at c a c′ e)
+    fan-none at c a c′ e = reached-same at c a c′ e
 
     -- the routes to the first receiver in what the check accepts
     fan-first : (r : ℕ) (rs : List ℕ) (at c a c′ : ℕ) → checkGroups n links F s (fan f command sources (r ∷ rs)) at c ≡ reached a c′
@@ -135,7 +136,7 @@ module _ (n f : ℕ) (links : Links) (F : ℕ) (few : n ≤ 8) (s : List ℕ) wh
         × (checkGroups n links F s (fan f command sources rs) (at + 9 * (f + 1)) (c + (f + 1)) ≡ reached a c′)
     unfolding fan checkGroups
     fan-first r rs at c a c′ e =
-        let (a₀, c₀, p, q) = then-reached (checkGroup n links F s (groupTo r) (f + 1) at c 0) (λ (b d : ℕ). checkGroups n links F s (fan f command sources rs) b d) a c′ e in
+        let (a₀, c₀, p, q) = then-forward (checkGroup n links F s (groupTo r) (f + 1) at c 0) (λ (b d : ℕ). checkGroups n links F s (fan f command sources rs) b d) a c′ e in
         let h = group-forward n links F few s (groupTo r) wide (f + 1) at c 0 a₀ c₀ p in
         (h .2, (h .3, h .4), rw (h .0, h .1) at q)
 

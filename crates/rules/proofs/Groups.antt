@@ -1,10 +1,8 @@
 -- The separate routes to one receiver, as the check goes through them and as the rules say it.
---     then-reached      what two checks in a row reach
 --     cut-map           a list cut where its images are cut
 --     separate-append   separate routes of two lists with no receiver in common; separate-left and separate-right the other way
 --     routes-length     how many routes are decoded; routes-append in two parts
 --     encode-long       how many bytes routes take; encode-append in two parts
---     due-reached       the command at a place is whole and the one that is due
 --     route-span        the bytes at such a place; span-command, span-whole and span-route the other way
 --     group-forward     what the check of a group accepts is separate routes to the receiver
 --     group-backward    separate routes to the receiver are accepted
@@ -29,38 +27,9 @@ use Rattle.plan.specs.Check.{Progress, reached, stopped, width, isCut, isDue, r
 use Rattle.plan.proofs.Groups.{whole-command}
 use Rattle.rules.specs.Blocks.{Route, sourceOf, receiverOf, operand, encodeRoutes, routesAt}
 use Rattle.rules.specs.Rules.{Each, IsRoute, Separate, AllSeparate}
+use Rattle.rules.proofs.Progress.{stopped-reached, reached-same, due-forward}
 use Rattle.rules.proofs.Routes.{route-rules, rules-route, operand-path, operand-long, servers-small, separate-apart, apart-separate}
 use Rattle.rules.proofs.Spans.{Span, span-append, span-left, span-right}
-
--- what is reached
-
-abbrev kind : Progress → ℕ
-kind (reached a c) = 0
-kind (stopped k p) = 1
-
-abbrev placeOf : Progress → ℕ
-placeOf (reached a c) = a
-placeOf (stopped k p) = 0
-
-abbrev carriagesOf : Progress → ℕ
-carriagesOf (reached a c) = c
-carriagesOf (stopped k p) = 0
-
--- what is stopped has reached nothing
-pub stopped-reached {ℓ} : {C : Type ℓ} (k p a c : ℕ) → stopped k p ≡ reached a c → C
-stopped-reached k p a c e = absurd (let z : _≡_ {A = ℕ} 1 0 = ap kind e in omega arith)
-
-pub reached-place : (a c a′ c′ : ℕ) → reached a c ≡ reached a′ c′ → a ≡ a′
-reached-place a c a′ c′ e = ap placeOf e
-
-pub reached-carriages : (a c a′ c′ : ℕ) → reached a c ≡ reached a′ c′ → c ≡ c′
-reached-carriages a c a′ c′ e = ap carriagesOf e
-
--- what is reached after two steps is reached after the first and then the second
-pub then-reached : (p : Progress) (next : ℕ → ℕ → Progress) (a c : ℕ) → andThen p next ≡ reached a c
-    → (a₀ c₀ : ℕ) × (p ≡ reached a₀ c₀) × (next a₀ c₀ ≡ reached a c)
-then-reached (reached a₀ c₀) next a c e = (a₀, c₀, refl, e)
-then-reached (stopped k p) next a c e = stopped-reached k p a c e
 
 -- the first of a list and the others
 pub each-cons : {A : Type 0} (P : A → Type 0) (x : A) (xs : List A) → P x → Each P xs → Each P (x ∷ xs)
@@ -127,16 +96,6 @@ encode-long n links F few command (p ∷ ps) h =
 
 -- the command at a place
 
-pub due-reached : (s : List ℕ) (at command : ℕ) (next : Progress) (a c : ℕ) → isDue s at command next ≡ reached a c
-    → (isCut s at ≡ false) × (getD s at 0 ≡ command) × (next ≡ reached a c)
-unfolding isDue
-due-reached s at command next a c e =
-    cases (isCut s at)
-    (λ p. stopped-reached 2 at a c (sym (simp p) ∙ e))
-    (λ p. cases (eqb (getD s at 0) command)
-    (λ q. (p, eqb-true (getD s at 0) command q, sym (simp (p, q)) ∙ e))
-    (λ q. stopped-reached 7 at a c (sym (simp (p, q)) ∙ e)))
-
 module _ (s : List ℕ) (at command : ℕ) (wide : width command ≡ 9) where
   pub route-long : isCut s at ≡ false → getD s at 0 ≡ command → length (routeAt s at) ≡ 8
   unfolding routeAt
@@ -202,7 +161,7 @@ module _ (n : ℕ) (links : Links) (F : ℕ) (few : n ≤ 8) (s : List ℕ) (g :
 
   pub group-none : (at c used a c′ : ℕ) → checkGroup n links F s g zero at c used ≡ reached a c′ → (at ≡ a) × (c ≡ c′)
   unfolding checkGroup
-  group-none at c used a c′ e = (reached-place at c a c′ e, reached-carriages at c a c′ e)
+  group-none at c used a c′ e = reached-same at c a c′ e
 
   pub group-zero : (at c used : ℕ) → checkGroup n links F s g zero at c used ≡ reached (at + 0) (c + 0)
   unfolding checkGroup
@@ -215,7 +174,7 @@ module _ (n : ℕ) (links : Links) (F : ℕ) (few : n ≤ 8) (s : List ℕ) (g :
       × (checkGroup n links F s g k (at + 9) (c + 1) (union used (others (path (routeAt s at)))) ≡ reached a c′)
   unfolding checkGroup
   group-first k at c used a c′ e =
-      let d = due-reached s at (g .command) _ a c′ e in
+      let d = due-forward s at (g .command) _ a c′ e in
       let l = route-long s at (g .command) wide (d .0) (d .1) in
       cases (isRoute n links F (g .sources) (g .receiver) (routeAt s at))
       (λ p. let h = route-rules n links F few (g .sources) (g .receiver) (routeAt s at) l p in

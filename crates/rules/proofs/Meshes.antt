@@ -25,7 +25,8 @@ use Rattle.rules.specs.Rules.{Each, IsRoute, sourcesFor, pairsOf, endsOf
 use Rattle.rules.proofs.Routes.{operand-long}
 use Rattle.rules.proofs.Lists.{length-members, members-in}
 use Rattle.rules.proofs.Spans.{Span, span-append, span-left, span-right}
-use Rattle.rules.proofs.Groups.{reached-place, reached-carriages, then-reached, each-cons, each-append, encode-append, encode-long, OfGroup, group-first, group-none, group-backward}
+use Rattle.rules.proofs.Progress.{reached-same, then-forward}
+use Rattle.rules.proofs.Groups.{each-cons, each-append, encode-append, encode-long, OfGroup, group-first, group-none, group-backward}
 use Rattle.rules.proofs.Fans.{Different, members-different, map-join}
 
 -- the group of a receiver and a source
@@ -116,7 +117,7 @@ module _ (n : ℕ) (links : Links) (F : ℕ) (few : n ≤ 8) (s : List ℕ) wher
 
   mesh-none : (at c a c′ : ℕ) → checkGroups n links F s [] at c ≡ reached a c′ → (at ≡ a) × (c ≡ c′)
   unfolding checkGroups
-  mesh-none at c a c′ e = (reached-place at c a c′ e, reached-carriages at c a c′ e)
+  mesh-none at c a c′ e = reached-same at c a c′ e
 
   -- the first route of what the check accepts
   mesh-first : (e : ℕ × ℕ) (es : List (ℕ × ℕ)) (at c a c′ : ℕ) → checkGroups n links F s (map groupOf (e ∷ es)) at c ≡ reached a c′
@@ -124,7 +125,7 @@ module _ (n : ℕ) (links : Links) (F : ℕ) (few : n ≤ 8) (s : List ℕ) wher
       × (checkGroups n links F s (map groupOf es) (at + 9) (c + 1) ≡ reached a c′)
   unfolding checkGroups
   mesh-first e es at c a c′ h =
-      let (a₀, c₀, p, q) = then-reached (checkGroup n links F s (groupOf e) 1 at c 0) (λ (b d : ℕ). checkGroups n links F s (map groupOf es) b d) a c′ h in
+      let (a₀, c₀, p, q) = then-forward (checkGroup n links F s (groupOf e) 1 at c 0) (λ (b d : ℕ). checkGroups n links F s (map groupOf es) b d) a c′ h in
       let (b, o, t) = group-first n links F few s (groupOf e) wide 0 at c 0 a₀ c₀ p in
       let z = group-none n links F few s (groupOf e) wide (at + 9) (c + 1) _ a₀ c₀ t in
       (b, o .sound, ap₂ (λ (r x : ℕ). (r, x)) (o .last) (in-single (e .1) (sourceOf (path (routeAt s at))) (o .start)), rw (← z .0, ← z .1) at q)
