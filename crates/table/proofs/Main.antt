@@ -7,10 +7,14 @@ use Prim.Native.Nat.{ℕ}
 use lib.Dec.{eqb}
 use borrow.Author.Tests.{eqb-true}
 use Rattle.facts.proofs.Bools.{and-left, and-right, clash}
-use Rattle.sets.specs.Sets.{has, union, meet, minus, full, count, size}
+use Rattle.sets.specs.Sets.{has, single, union, meet, minus, within, full, count, size, firstIn, lowest}
 use Rattle.network.specs.Links.{noLinks, linkedIn, withLink}
 use Rattle.network.specs.Card.{headFits, linkFits, headAt, linkAt, endAt, stepAt, commands, readCard}
 use Rattle.network.specs.Split.{someBelow, incoming, held, rest, isSplit, isBad, badAt, firstFrom, badWithSides, badWithFaults, firstBad, splitTest}
+use Rattle.plan.specs.Members.{listFrom, members}
+use Rattle.plan.specs.Due.{isPart, due, fan, toOne, pairs, routesDue}
+use Rattle.plan.specs.Route.{path, isFill, filled, serversOf, goesOn, isPath, isRoute}
+use Rattle.plan.specs.Check.{width, isCut, isDue, routeAt, checkGroup, checkGroups, checkReports, checkBlock, checkBlocks, checkEnd, checkOn, checkPlan}
 use Rattle.table.specs.Rows.{Row, Holds, given, stated, table}
 
 sameList : List ℕ → List ℕ → Bool
@@ -40,7 +44,7 @@ allHold-each (first ∷ rows) e row (List·Memᴰ·tail m) =
     allHold-each rows (and-right (sameList (given first) (stated first)) (allHold rows) e) row m
 
 computed : allHold table ≡ true
-unfolding allHold sameList has union meet minus full count size noLinks linkedIn withLink headFits linkFits headAt linkAt endAt stepAt commands readCard someBelow incoming held rest isSplit isBad badAt firstFrom badWithSides badWithFaults firstBad splitTest
+unfolding allHold sameList has single union meet minus within full count size firstIn lowest noLinks linkedIn withLink headFits linkFits headAt linkAt endAt stepAt commands readCard someBelow incoming held rest isSplit isBad badAt firstFrom badWithSides badWithFaults firstBad splitTest listFrom members isPart due fan toOne pairs routesDue path isFill filled serversOf goesOn isPath isRoute width isCut isDue routeAt checkGroup checkGroups checkReports checkBlock checkBlocks checkEnd checkOn checkPlan
 computed = refl
 
 pub table-holds : (row : Row) → List·Memᴰ row table → Holds row
