@@ -8,6 +8,7 @@
 -- Reports     the reports of a block
 -- Cuts        the ways of cutting V−F and the blocks that are due, counted
 -- Parts       the parts of a block, one after the other
+-- Plans       the blocks of a plan, one fault set after the other, and the plan as a whole
 pub mod Counts
 pub mod Commands
 pub mod Paths
@@ -18,3 +19,4 @@ pub mod Bounds
 pub mod Reports
 pub mod Cuts
 pub mod Parts
+pub mod Plans
