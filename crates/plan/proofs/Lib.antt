@@ -9,6 +9,7 @@
 -- Cuts        the ways of cutting V−F and the blocks that are due, counted
 -- Parts       the parts of a block, one after the other
 -- Steps       one block as a step of the check of the blocks
+-- Plans       the blocks of a plan, one fault set after the other, and the plan as a whole
 pub mod Counts
 pub mod Commands
 pub mod Paths
@@ -20,3 +21,4 @@ pub mod Reports
 pub mod Cuts
 pub mod Parts
 pub mod Steps
+pub mod Plans

@@ -1,0 +1,91 @@
+-- `plan::check::check_blocks` meets its contract. The invariant of its loop: the blocks of the fault sets that are left give the answer of all
+-- (`Plans`). The measure is how many numbers are left. Assumes nothing.
+use mathlib.Core.Logic.{⊎-elim}
+use Prim.Native.Nat.{_-_}
+use native.Mathlib.Omega.{arith}
+use borrow.Author.Needs.{needs}
+use Rattle.plan.proofs.Cuts.{full-few}
+use Rattle.plan.proofs.Plans.{Going, going-starts, going-ends, going-skips, going-halts, going-moves}
+use Rattle.plan.proofs.check.check_blocks.Statement.{statement}
+use Rattle.plan.proofs.check.check_blocks.Tie as tie
+use Rattle.plan.proofs.check.check_blocks.Reads as reads
+use Rattle.plan.proofs.check.check_blocks.Lts as lts
+use Rattle.plan.proofs.check.check_cuts.Reads as check-cuts-reads
+use Rattle.sets.proofs.full.Reads as full-reads
+use Rattle.sets.proofs.size.Reads as size-reads
+
+abbrev Inv-loop : tie.InvT-loop
+Inv-loop n f links plan limit at₀ carriages₀ i₀ at carriages i = Going n f links plan limit i at carriages
+
+abbrev μ-loop : tie.MeasureT-loop
+μ-loop n f links plan limit at₀ carriages₀ i₀ at carriages i = limit - i
+
+full-requires : tie.Need-full-requires Inv-loop μ-loop
+full-requires c κs = search needs
+
+cast-limit : tie.Need-cast-limit Inv-loop μ-loop
+cast-limit c = let w = full-few _ _ (c .before .before .pre .0) (c .full .ensures) in omega arith
+
+add-limit : tie.Need-add-limit Inv-loop μ-loop
+add-limit c = let w = full-few _ _ (c .before .before .pre .0) (c .full .ensures) in omega arith
+
+loop-holds : tie.Need-loop-holds Inv-loop μ-loop
+loop-holds c = going-starts _ _ _ _ _ ((full-few _ _ (c .before .before .pre .0) (c .full .ensures)) .1)
+
+cast-fault : tie.Need-cast-fault Inv-loop μ-loop
+cast-fault c = let w = full-few _ _ (c .before .before .before .before .pre .0) (c .before .before .full .ensures) in omega arith
+
+size-requires : tie.Need-size-requires Inv-loop μ-loop
+size-requires c κs = search needs
+
+check-cuts-requires : tie.Need-check-cuts-requires Inv-loop μ-loop
+check-cuts-requires c κs = let l = c .before .before .before .loop in (c .before .before .before .before .before .before .pre .0, l .inv .1, l .inv .2, c .before .before .before .before .before .before .pre .1)
+
+enum-known-cuts : tie.Need-enum-known-cuts Inv-loop μ-loop
+enum-known-cuts c = search needs
+
+returns : tie.Need-returns Inv-loop μ-loop
+returns c = let l = c .before .before .before .before .before .before .before .loop in
+    going-halts _ _ _ _ _ (l .i) (l .at) (l .carriages) (l .inv) (c .before .before .before .before .before .before .loop-test .taken) _ (c .before .before .before .before .before .size .ensures) (c .before .before .before .before .if1 .taken) _ (c .before .before .before .check-cuts .ensures) _ (c .before .cuts .given .1)
+
+enum-known-cuts-2 : tie.Need-enum-known-cuts-2 Inv-loop μ-loop
+enum-known-cuts-2 c = search needs
+
+add-i : tie.Need-add-i Inv-loop μ-loop
+add-i c = let w = full-few _ _ (c .before .before .before .before .before .before .pre .0) (c .before .before .before .before .full .ensures) in omega arith
+
+loop-less : tie.Need-loop-less Inv-loop μ-loop
+loop-less c = search needs
+
+loop-again : tie.Need-loop-again Inv-loop μ-loop
+loop-again c = let l = c .before .before .before .loop in
+    let h = c .before .before .loop-test .taken in
+    let e = c .before .size .ensures in
+    ⊎-elim
+    (λ w. going-moves _ _ _ _ _ (l .i) (l .at) (l .carriages) (l .inv) h _ e (w .0 .taken) _ (w .1 .ensures) (omega arith) _ _ (w .3 .given .1) _ _ (w .5) (w .6))
+    (λ w. going-skips _ _ _ _ _ (l .i) (l .at) (l .carriages) (l .inv) h _ e (w .0 .left) _ _ (w .1) (w .2))
+    (c .if1 .came)
+
+returns-2 : tie.Need-returns-2 Inv-loop μ-loop
+returns-2 c = let l = c .before .loop in going-ends _ _ _ _ _ (l .i) (l .at) (l .carriages) (l .inv) (c .loop-test .left)
+
+pub check-blocks-spec : {M : Type 1} → statement M
+check-blocks-spec =
+    tie.close
+    (tie.spec
+    Inv-loop
+    μ-loop
+    full-requires
+    cast-limit
+    add-limit
+    loop-holds
+    cast-fault
+    size-requires
+    check-cuts-requires
+    enum-known-cuts
+    returns
+    enum-known-cuts-2
+    add-i
+    loop-less
+    loop-again
+    returns-2)
