@@ -4,12 +4,15 @@ use network::card;
 use network::card::Reading;
 use network::split;
 use network::split::SplitAnswer;
+use plan::check;
+use plan::check::Checked;
 use refusal::Refusal;
 ghost use mathlib.Core.Path.{_≡_};
 ghost use Rattle.network.specs.Links.{linkedIn};
 ghost use Rattle.network.specs.Card.{readCard, headOf, linksOf};
 ghost use Rattle.network.specs.Split.{splitTest};
-ghost use Rattle.agreement.specs.Words.{headWords, splitWords};
+ghost use Rattle.plan.specs.Check.{checkPlan};
+ghost use Rattle.agreement.specs.Words.{headWords, splitWords, planWords};
 
 // Reads a card. The answer is 0, n, f, 0; or 2, what is at fault, the refusal's number, its place.
 #[no_mangle]
@@ -60,6 +63,26 @@ pub extern "C" fn agreement_split_test(card: &[u8], answer: &mut [u64; 5])
             let number = refusal::number(r);
             let place = refusal::place(r);
             *answer = [2, whose as u64, number as u64, place as u64, 0];
+        }
+    }
+}
+
+// The plan check. The answer is 0, the number of blocks, the number of carriages, 0; or 2, what is
+// at fault, the refusal's number, its place.
+#[no_mangle]
+pub extern "C" fn agreement_check_plan(card: &[u8], plan: &[u8], answer: &mut [u64; 4])
+    ensures { λ r. ⌜ now (answer .exit) ≡ planWords (checkPlan (now (card .entry)) (now (plan .entry))) ⌝ }
+{
+    let checked = check::check_plan(card, plan);
+    match checked {
+        Checked::Accepted { blocks, carriages } => {
+            *answer = [0, blocks as u64, carriages as u64, 0];
+        }
+        Checked::Refused(r) => {
+            let whose = refusal::whose(r);
+            let number = refusal::number(r);
+            let place = refusal::place(r);
+            *answer = [2, whose as u64, number as u64, place as u64];
         }
     }
 }
