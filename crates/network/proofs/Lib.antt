@@ -12,7 +12,7 @@
 -- Scans         the three nested scans
 -- Theorem       the first bad split against Theorem 1's condition
 pub mod Main
-mod Marks
+pub mod Marks
 pub mod Reading
 pub mod Accepted
 pub mod Networks

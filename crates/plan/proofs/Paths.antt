@@ -96,6 +96,10 @@ module _ (n : ℕ) (links : Links) (busy last receiver : ℕ) (s : List ℕ) (en
     pub walk-past : n ≤ getD s i 0 → false ≡ goesOn n links busy last receiver (drop i (take end s))
     walk-past e = sym (walk-now ∙ simp (le-ltb _ _ e))
 
+    pub walk-far : linkedIn links last (getD s i 0) ≡ false → false ≡ goesOn n links busy last receiver (drop i (take end s))
+    walk-far e =
+        sym (walk-now ∙ cases (ltb (getD s i 0) n) (λ a. cases (has busy (getD s i 0)) (λ b. simp (a, b)) (λ b. simp (a, b, e))) (λ a. simp a))
+
     module _ (a : getD s i 0 < n) (b : Bool) (p : b ≡ has busy (getD s i 0)) where
       pub walk-busy : b ≡ true → false ≡ goesOn n links busy last receiver (drop i (take end s))
       walk-busy t = sym (walk-now ∙ simp (lt-ltb _ _ a, sym p ∙ t))

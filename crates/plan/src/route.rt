@@ -1,6 +1,5 @@
 // The route check: a route's operand is eight bytes, the servers from the source to the receiver
 // and then the fill.
-use network::links;
 ghost use mathlib.Core.Path.{_≡_};
 ghost use Prim.Native.Nat.{_≤_, _<_};
 ghost use lib.ListN.{length, take, drop, getD};
@@ -43,7 +42,7 @@ fn goes_on(
     operand: &[u8],
     end: usize,
 ) -> bool
-    requires { ⌜ (1 ≤ end) × (end ≤ length (now operand)) ⌝ }
+    requires { ⌜ (1 ≤ end) × (end ≤ length (now operand)) × (getD (now operand) 0 0 < 8) ⌝ }
     ensures { λ r. ⌜ r ≡ goesOn n links (union fault (single (getD (now (operand .entry)) 0 0))) (getD (now (operand .entry)) 0 0) receiver (drop 1 (take end (now (operand .entry)))) ⌝ }
 {
     let mut last = operand[0];
@@ -53,10 +52,15 @@ fn goes_on(
         if n <= server {
             return false;
         }
+        if 8 <= server {
+            return false;
+        }
         if sets::member(busy, server) {
             return false;
         }
-        if links::linked(links, last, server) {
+        let row = last as usize;
+        let mark = server as usize;
+        if links[row][mark] {
             busy = sets::union(busy, sets::single(server));
             last = server;
         } else {

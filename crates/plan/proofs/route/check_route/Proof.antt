@@ -5,6 +5,7 @@ use mathlib.Core.Bool.{Bool, true, false}
 use Prim.Native.Nat.{ℕ, _+_, _-_, _≤_, _<_}
 use native.Mathlib.Omega.{arith}
 use borrow.Author.Needs.{needs}
+use Rattle.sets.proofs.Members.{has-below}
 use Rattle.plan.proofs.Paths.{route-short, route-few, route-unfilled, route-past, route-faulty, route-astray, route-broken, route-sound}
 use Rattle.plan.proofs.route.check_route.Statement.{statement}
 use Rattle.plan.proofs.route.check_route.Tie as tie
@@ -79,7 +80,7 @@ member-requires-2 : tie.Need-member-requires-2
 member-requires-2 c κs = search needs
 
 goes-on-requires : tie.Need-goes-on-requires
-goes-on-requires c κs = search needs
+goes-on-requires c κs = (omega arith, omega arith, has-below 8 _ _ (search needs) (sym (c .before .member2 .ensures) ∙ c .if6 .taken))
 
 sub-result-5 : tie.Need-sub-result-5
 sub-result-5 c = search needs
