@@ -11,6 +11,7 @@ use lib.Dec.{eqb, ltb, leb}
 use borrow.Author.Tests.{eq-eqb, ne-eqb, le-leb, ltb-false}
 use Rattle.facts.proofs.Bools.{cases, clash, is-false}
 use Rattle.sets.specs.Sets.{union, meet, minus, single}
+use Rattle.sets.proofs.Members.{meet-nothing}
 use Rattle.network.specs.Links.{Links}
 use Rattle.plan.specs.Due.{Group}
 use Rattle.plan.specs.Route.{path, serversOf, isPath, isRoute, checkedRoute}
@@ -106,3 +107,13 @@ module _ (n : ℕ) (links : Links) (F : ℕ) (s : List ℕ) (g : Group) (k at ca
             group-on z used′ v =
                 let x : eqb (meet used (minus (serversOf (path (take 8 (drop (at + 1) s)))) (single (g .receiver)))) 0 ≡ true = ap (λ (y : ℕ). eqb (meet used y) 0) (sym others-is) ∙ eq-eqb (meet used others) 0 (sym i ∙ z) in
                 ap (checkGroup n links F s g k (at + 9) (carriages + 1)) (v ∙ ap (union used) others-is) ∙ sym (group-now ∙ simp (sym p ∙ f, eq-eqb _ _ e, sound, x))
+
+-- a group of one route
+module _ (n : ℕ) (links : Links) (F : ℕ) (s : List ℕ) (g : Group) (at carriages : ℕ) where
+  pub group-one : (b : Bool) → b ≡ isCut s at → b ≡ false → getD s at 0 ≡ g .command → width (g .command) ≡ 9
+      → (r : List ℕ) → r ≡ checkedRoute n links F (g .sources) (g .receiver) (drop (at + 1) s) → (length r ≡ 0 → ⊥)
+      → reached (at + 9) (carriages + 1) ≡ checkGroup n links F s g 1 at carriages 0
+  group-one b p f e w r q some =
+      let others = minus (serversOf r) (single (g .receiver)) in
+      group-done n links F s g 0 (at + 9) (carriages + 1) (union 0 others) refl
+      ∙ group-on n links F s g 0 at carriages 0 b p f e w r q some (serversOf r) (single (g .receiver)) others (meet 0 others) refl refl refl refl (meet-nothing others) (union 0 others) refl

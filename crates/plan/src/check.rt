@@ -12,7 +12,7 @@ ghost use Prim.Native.Nat.{_+_, _*_, _^_, _≤_, _<_};
 ghost use lib.Dec.{eqb};
 ghost use lib.ListN.{length};
 ghost use Rattle.refusal.specs.Refused.{planRefusal, numberOf, placeOf};
-ghost use Rattle.sets.specs.Sets.{minus, full};
+ghost use Rattle.sets.specs.Sets.{minus, full, lowest};
 ghost use Rattle.network.specs.Card.{network};
 ghost use Rattle.plan.specs.Members.{listFrom, members};
 ghost use Rattle.plan.specs.Due.{isPart, blocksOf, due, fan, toOne, pairs, routesDue};
@@ -87,6 +87,40 @@ fn check_group(
     Progress::Reached { at, carriages }
 }
 
+// One route by itself: there is none that it could share a server with.
+fn check_one(
+    n: u8,
+    links: [[bool; 8]; 8],
+    fault: u8,
+    plan: &[u8],
+    at: usize,
+    before: usize,
+    sources: u8,
+    receiver: u8,
+) -> Progress
+    requires { ⌜ before ≤ at ⌝ }
+    ensures { λ r. ⌜ progressOf r ≡ checkGroup n links fault (now (plan .entry)) (groupOf 18 sources receiver 1) 1 at before 0 ⌝ }
+{
+    if command::is_cut(plan, at) {
+        return Progress::Stopped(PlanGround::Cut(at));
+    }
+    if plan[at] != 18 {
+        return Progress::Stopped(PlanGround::NotDue(at));
+    }
+    let first = at + 1;
+    let operand = &plan[first..];
+    let servers = route::check_route(n, links, fault, sources, receiver, operand);
+    if servers.len() == 0 {
+        return Progress::Stopped(PlanGround::Route(at));
+    }
+    let next = at + 9;
+    let carriages = before + 1;
+    Progress::Reached {
+        at: next,
+        carriages,
+    }
+}
+
 // f+1 routes to each receiver of the set, receivers ascending, from the sources.
 fn check_fan(
     n: u8,
@@ -156,18 +190,8 @@ fn check_to_one(
     for source in 0..8u8 {
         if sets::member(quorum, source) {
             if source != receiver {
-                let group = check_group(
-                    n,
-                    links,
-                    fault,
-                    plan,
-                    at,
-                    carriages,
-                    18,
-                    sets::single(source),
-                    receiver,
-                    1,
-                );
+                let only = sets::single(source);
+                let group = check_one(n, links, fault, plan, at, carriages, only, receiver);
                 match group {
                     Progress::Stopped(ground) => {
                         return Progress::Stopped(ground);
@@ -438,11 +462,12 @@ fn later(ground: PlanGround, at: usize) -> PlanGround
 }
 
 // The part holds the lowest server of `sound`, lies within it and is not all of it.
-fn is_part(sound: u8, part: u8) -> bool
+fn is_part(sound: u8, low: u8, part: u8) -> bool
+    requires { ⌜ low ≡ lowest sound ⌝ }
     ensures { λ r. ⌜ r ≡ isPart sound part ⌝ }
 {
     if sets::within(part, sound) {
-        if sets::member(part, sets::lowest(sound)) {
+        if sets::member(part, low) {
             return part != sound;
         }
         return false;
@@ -465,12 +490,13 @@ fn check_cuts(
 {
     let servers = sets::full(n);
     let sound = sets::minus(servers, fault);
+    let low = sets::lowest(sound);
     let limit = (servers as u16) + 1;
     let mut at = start;
     let mut carriages = before;
     for p in 0..limit {
         let part = p as u8;
-        if is_part(sound, part) {
+        if is_part(sound, low, part) {
             let block = check_block(n, f, links, fault, part, &plan[at..]);
             match block {
                 Progress::Stopped(ground) => {
@@ -542,10 +568,11 @@ fn cuts(n: u8, fault: u8) -> usize
 {
     let servers = sets::full(n);
     let sound = sets::minus(servers, fault);
+    let low = sets::lowest(sound);
     let limit = (servers as u16) + 1;
     let mut total: usize = 0;
     for p in 0..limit {
-        if is_part(sound, p as u8) {
+        if is_part(sound, low, p as u8) {
             total = total + 1;
         }
     }

@@ -17,7 +17,7 @@ use Rattle.plan.proofs.check.check_to_one.Statement.{statement}
 use Rattle.plan.proofs.check.check_to_one.Tie as tie
 use Rattle.plan.proofs.check.check_to_one.Reads as reads
 use Rattle.plan.proofs.check.check_to_one.Lts as lts
-use Rattle.plan.proofs.check.check_group.Reads as check-group-reads
+use Rattle.plan.proofs.check.check_one.Reads as check-one-reads
 use Rattle.sets.proofs.member.Reads as member-reads
 use Rattle.sets.proofs.single.Reads as single-reads
 
@@ -41,9 +41,8 @@ member-requires c κs = search needs
 single-requires : tie.Need-single-requires Inv-loop μ-loop
 single-requires c κs = search needs
 
-check-group-requires : tie.Need-check-group-requires Inv-loop μ-loop
-unfolding width
-check-group-requires c κs = (refl, omega arith)
+check-one-requires : tie.Need-check-one-requires Inv-loop μ-loop
+check-one-requires c κs = omega arith
 
 enum-known-group : tie.Need-enum-known-group Inv-loop μ-loop
 enum-known-group c = search needs
@@ -52,7 +51,7 @@ returns : tie.Need-returns Inv-loop μ-loop
 returns c = let a = c .before .before .before .before .before .before .before .before .before .before .before .args in
     let l = c .before .before .before .before .before .before .before .before .before .loop in
     walk-halts (toOneStep (a .n) (a .links) (a .fault) (a .plan .now) (a .receiver)) 8 (has (a .quorum)) _ (l .source) (l .at) (l .carriages) (l .inv .3) (omega arith)
-    _ (c .before .before .before .before .before .before .before .member .ensures) (c .before .before .before .before .before .before .if1 .taken) _ (toOne-other (a .n) (a .links) (a .fault) (a .plan .now) (a .receiver) (l .source) (l .at) (l .carriages) (c .before .before .before .before .before .if2 .taken) _ (c .before .before .before .before .single .ensures) _ (c .before .before .before .check-group .ensures)) _ refl _ (c .before .group .given .1)
+    _ (c .before .before .before .before .before .before .before .member .ensures) (c .before .before .before .before .before .before .if1 .taken) _ (toOne-other (a .n) (a .links) (a .fault) (a .plan .now) (a .receiver) (l .source) (l .at) (l .carriages) (c .before .before .before .before .before .if2 .taken) _ (c .before .before .before .before .single .ensures) _ (c .before .before .before .check-one .ensures)) _ refl _ (c .before .group .given .1)
 
 enum-known-group-2 : tie.Need-enum-known-group-2 Inv-loop μ-loop
 enum-known-group-2 c = search needs
@@ -87,7 +86,7 @@ check-to-one-spec =
     loop-holds
     member-requires
     single-requires
-    check-group-requires
+    check-one-requires
     enum-known-group
     returns
     enum-known-group-2

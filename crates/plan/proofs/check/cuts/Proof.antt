@@ -12,14 +12,15 @@ use Rattle.plan.proofs.check.cuts.Reads as reads
 use Rattle.plan.proofs.check.cuts.Lts as lts
 use Rattle.plan.proofs.check.is_part.Reads as is-part-reads
 use Rattle.sets.proofs.full.Reads as full-reads
+use Rattle.sets.proofs.lowest.Reads as lowest-reads
 use Rattle.sets.proofs.minus.Reads as minus-reads
 
 abbrev Inv-loop : tie.InvT-loop
-Inv-loop n fault servers sound limit total₀ p₀ total p =
+Inv-loop n fault servers sound low limit total₀ p₀ total p =
     Counted limit (isPart sound) p total
 
 abbrev μ-loop : tie.MeasureT-loop
-μ-loop n fault servers sound limit total₀ p₀ total p = limit - p
+μ-loop n fault servers sound low limit total₀ p₀ total p = limit - p
 
 full-requires : tie.Need-full-requires Inv-loop μ-loop
 full-requires c κs = search needs
@@ -27,26 +28,29 @@ full-requires c κs = search needs
 minus-requires : tie.Need-minus-requires Inv-loop μ-loop
 minus-requires c κs = search needs
 
+lowest-requires : tie.Need-lowest-requires Inv-loop μ-loop
+lowest-requires c κs = search needs
+
 cast-limit : tie.Need-cast-limit Inv-loop μ-loop
-cast-limit c = let w = full-few _ _ (c .before .before .pre) (c .before .full .ensures) in omega arith
+cast-limit c = let w = full-few _ _ (c .before .before .before .pre) (c .before .before .full .ensures) in omega arith
 
 add-limit : tie.Need-add-limit Inv-loop μ-loop
-add-limit c = let w = full-few _ _ (c .before .before .pre) (c .before .full .ensures) in omega arith
+add-limit c = let w = full-few _ _ (c .before .before .before .pre) (c .before .before .full .ensures) in omega arith
 
 loop-holds : tie.Need-loop-holds Inv-loop μ-loop
 loop-holds c = counted-starts _ _
 
 cast-is-part : tie.Need-cast-is-part Inv-loop μ-loop
-cast-is-part c = let w = full-few _ _ (c .before .before .before .before .pre) (c .before .before .before .full .ensures) in omega arith
+cast-is-part c = let w = full-few _ _ (c .before .before .before .before .before .pre) (c .before .before .before .before .full .ensures) in omega arith
 
 is-part-requires : tie.Need-is-part-requires Inv-loop μ-loop
 is-part-requires c κs = search needs
 
 add-total : tie.Need-add-total Inv-loop μ-loop
-add-total c = let w = full-few _ _ (c .before .before .before .before .before .before .pre) (c .before .before .before .before .before .full .ensures) in omega arith
+add-total c = let w = full-few _ _ (c .before .before .before .before .before .before .before .pre) (c .before .before .before .before .before .before .full .ensures) in omega arith
 
 add-p : tie.Need-add-p Inv-loop μ-loop
-add-p c = let w = full-few _ _ (c .before .before .before .before .before .before .pre) (c .before .before .before .before .before .full .ensures) in omega arith
+add-p c = let w = full-few _ _ (c .before .before .before .before .before .before .before .pre) (c .before .before .before .before .before .before .full .ensures) in omega arith
 
 loop-less : tie.Need-loop-less Inv-loop μ-loop
 loop-less c = search needs
@@ -58,9 +62,9 @@ loop-again c = let l = c .before .before .before .loop in
     ⊎-elim (λ w. rw (w .1) (counted-one _ _ _ _ (l .inv) h _ e (w .0 .taken))) (λ w. rw (w .1) (counted-none _ _ _ _ (l .inv) h _ e (w .0 .left))) (c .if1 .came)
 
 returns : tie.Need-returns Inv-loop μ-loop
-returns c = let w = full-few _ _ (c .before .before .before .before .pre) (c .before .before .before .full .ensures) in
+returns c = let w = full-few _ _ (c .before .before .before .before .before .pre) (c .before .before .before .before .full .ensures) in
     let l = c .before .loop in
-    (cuts-are _ _ _ _ _ (c .before .before .before .before .pre) (c .before .before .before .full .ensures) (c .before .before .minus .ensures) (counted-ends _ _ _ _ (l .inv) (c .loop-test .left)), omega arith)
+    (cuts-are _ _ _ _ _ (c .before .before .before .before .before .pre) (c .before .before .before .before .full .ensures) (c .before .before .before .minus .ensures) (counted-ends _ _ _ _ (l .inv) (c .loop-test .left)), omega arith)
 
 pub cuts-spec : {M : Type 1} → statement M
 cuts-spec =
@@ -70,6 +74,7 @@ cuts-spec =
     μ-loop
     full-requires
     minus-requires
+    lowest-requires
     cast-limit
     add-limit
     loop-holds
