@@ -10,6 +10,7 @@
 -- Parts       the parts of a block, one after the other
 -- Steps       one block as a step of the check of the blocks
 -- Plans       the blocks of a plan, one fault set after the other, and the plan as a whole
+-- Lowests     the members of a set, taken out from the lowest on
 pub mod Counts
 pub mod Commands
 pub mod Paths
@@ -22,3 +23,4 @@ pub mod Cuts
 pub mod Parts
 pub mod Steps
 pub mod Plans
+pub mod Lowests

@@ -12,7 +12,7 @@ ghost use Prim.Native.Nat.{_+_, _*_, _^_, _≤_, _<_};
 ghost use lib.Dec.{eqb};
 ghost use lib.ListN.{length};
 ghost use Rattle.refusal.specs.Refused.{planRefusal, numberOf, placeOf};
-ghost use Rattle.sets.specs.Sets.{minus, full, lowest};
+ghost use Rattle.sets.specs.Sets.{minus, full, lowest, TableOf};
 ghost use Rattle.network.specs.Card.{network};
 ghost use Rattle.plan.specs.Members.{listFrom, members};
 ghost use Rattle.plan.specs.Due.{isPart, blocksOf, due, fan, toOne, pairs, routesDue};
@@ -133,38 +133,41 @@ fn check_fan(
     sources: u8,
     receivers: u8,
     f: u8,
+    lowests: &[u8; 256],
 ) -> Progress
-    requires { ⌜ (width command ≡ 9) × (before ≤ start) × (start ≤ length (now plan)) ⌝ }
+    requires { ⌜ (width command ≡ 9) × (before ≤ start) × (start ≤ length (now plan)) × TableOf lowest (now lowests) ⌝ }
     ensures { λ r. ⌜ progressOf r ≡ checkGroups n links fault (now (plan .entry)) (fan f command sources (members receivers)) start before ⌝ }
 {
     let count = (f as usize) + 1;
     let mut at = start;
     let mut carriages = before;
-    for receiver in 0..8u8 {
-        if sets::member(receivers, receiver) {
-            let group = check_group(
-                n,
-                links,
-                fault,
-                plan,
-                at,
-                carriages,
-                command,
-                sources,
-                receiver,
-                count,
-            );
-            match group {
-                Progress::Stopped(ground) => {
-                    return Progress::Stopped(ground);
-                }
-                Progress::Reached {
-                    at: next,
-                    carriages: total,
-                } => {
-                    at = next;
-                    carriages = total;
-                }
+    let mut left = receivers;
+    while left != 0 {
+        let receiver = lowests[left as usize];
+        let others = sets::minus(left, sets::single(receiver));
+        let group = check_group(
+            n,
+            links,
+            fault,
+            plan,
+            at,
+            carriages,
+            command,
+            sources,
+            receiver,
+            count,
+        );
+        match group {
+            Progress::Stopped(ground) => {
+                return Progress::Stopped(ground);
+            }
+            Progress::Reached {
+                at: next,
+                carriages: total,
+            } => {
+                at = next;
+                carriages = total;
+                left = others;
             }
         }
     }
@@ -181,29 +184,30 @@ fn check_to_one(
     before: usize,
     quorum: u8,
     receiver: u8,
+    lowests: &[u8; 256],
 ) -> Progress
-    requires { ⌜ (before ≤ start) × (start ≤ length (now plan)) ⌝ }
+    requires { ⌜ (before ≤ start) × (start ≤ length (now plan)) × (receiver < 8) × TableOf lowest (now lowests) ⌝ }
     ensures { λ r. ⌜ progressOf r ≡ checkGroups n links fault (now (plan .entry)) (toOne receiver (members quorum)) start before ⌝ }
 {
     let mut at = start;
     let mut carriages = before;
-    for source in 0..8u8 {
-        if sets::member(quorum, source) {
-            if source != receiver {
-                let only = sets::single(source);
-                let group = check_one(n, links, fault, plan, at, carriages, only, receiver);
-                match group {
-                    Progress::Stopped(ground) => {
-                        return Progress::Stopped(ground);
-                    }
-                    Progress::Reached {
-                        at: next,
-                        carriages: total,
-                    } => {
-                        at = next;
-                        carriages = total;
-                    }
-                }
+    let mut left = sets::minus(quorum, sets::single(receiver));
+    while left != 0 {
+        let source = lowests[left as usize];
+        let only = sets::single(source);
+        let others = sets::minus(left, only);
+        let route = check_one(n, links, fault, plan, at, carriages, only, receiver);
+        match route {
+            Progress::Stopped(ground) => {
+                return Progress::Stopped(ground);
+            }
+            Progress::Reached {
+                at: next,
+                carriages: total,
+            } => {
+                at = next;
+                carriages = total;
+                left = others;
             }
         }
     }
@@ -219,26 +223,39 @@ fn check_pairs(
     start: usize,
     before: usize,
     quorum: u8,
+    lowests: &[u8; 256],
 ) -> Progress
-    requires { ⌜ (before ≤ start) × (start ≤ length (now plan)) ⌝ }
+    requires { ⌜ (before ≤ start) × (start ≤ length (now plan)) × TableOf lowest (now lowests) ⌝ }
     ensures { λ r. ⌜ progressOf r ≡ checkGroups n links fault (now (plan .entry)) (pairs (members quorum) (members quorum)) start before ⌝ }
 {
     let mut at = start;
     let mut carriages = before;
-    for receiver in 0..8u8 {
-        if sets::member(quorum, receiver) {
-            let row = check_to_one(n, links, fault, plan, at, carriages, quorum, receiver);
-            match row {
-                Progress::Stopped(ground) => {
-                    return Progress::Stopped(ground);
-                }
-                Progress::Reached {
-                    at: next,
-                    carriages: total,
-                } => {
-                    at = next;
-                    carriages = total;
-                }
+    let mut left = quorum;
+    while left != 0 {
+        let receiver = lowests[left as usize];
+        let others = sets::minus(left, sets::single(receiver));
+        let row = check_to_one(
+            n,
+            links,
+            fault,
+            plan,
+            at,
+            carriages,
+            quorum,
+            receiver,
+            lowests,
+        );
+        match row {
+            Progress::Stopped(ground) => {
+                return Progress::Stopped(ground);
+            }
+            Progress::Reached {
+                at: next,
+                carriages: total,
+            } => {
+                at = next;
+                carriages = total;
+                left = others;
             }
         }
     }
@@ -323,13 +340,26 @@ fn check_outward(
     block: &[u8],
     start: usize,
     before: usize,
+    lowests: &[u8; 256],
 ) -> Progress
-    requires { ⌜ (n ≤ 8) × (before ≤ start) × (start ≤ length (now block)) ⌝ }
+    requires { ⌜ (n ≤ 8) × (before ≤ start) × (start ≤ length (now block)) × TableOf lowest (now lowests) ⌝ }
     ensures { λ r. ⌜ progressOf r ≡ andThen (checkGroups n links fault (now (block .entry)) (fan f 19 quorum (members (minus (minus (full n) fault) quorum))) start before) (λ at carriages. checkReports n f links fault (now (block .entry)) (members fault) at carriages) ⌝ }
 {
     let sound = sets::minus(sets::full(n), fault);
     let others = sets::minus(sound, quorum);
-    let outward = check_fan(n, links, fault, block, start, before, 19, quorum, others, f);
+    let outward = check_fan(
+        n,
+        links,
+        fault,
+        block,
+        start,
+        before,
+        19,
+        quorum,
+        others,
+        f,
+        lowests,
+    );
     match outward {
         Progress::Stopped(ground) => Progress::Stopped(ground),
         Progress::Reached { at, carriages } => check_reports(
@@ -354,11 +384,12 @@ fn check_among(
     block: &[u8],
     start: usize,
     before: usize,
+    lowests: &[u8; 256],
 ) -> Progress
-    requires { ⌜ (n ≤ 8) × (before ≤ start) × (start ≤ length (now block)) ⌝ }
+    requires { ⌜ (n ≤ 8) × (before ≤ start) × (start ≤ length (now block)) × TableOf lowest (now lowests) ⌝ }
     ensures { λ r. ⌜ progressOf r ≡ andThen (checkGroups n links fault (now (block .entry)) (pairs (members quorum) (members quorum)) start before) (λ a c. andThen (checkGroups n links fault (now (block .entry)) (fan f 19 quorum (members (minus (minus (full n) fault) quorum))) a c) (λ at carriages. checkReports n f links fault (now (block .entry)) (members fault) at carriages)) ⌝ }
 {
-    let among = check_pairs(n, links, fault, block, start, before, quorum);
+    let among = check_pairs(n, links, fault, block, start, before, quorum, lowests);
     match among {
         Progress::Stopped(ground) => Progress::Stopped(ground),
         Progress::Reached { at, carriages } => check_outward(
@@ -370,6 +401,7 @@ fn check_among(
             block,
             at,
             carriages,
+            lowests,
         ),
     }
 }
@@ -387,8 +419,21 @@ fn check_rest(
     requires { ⌜ (n ≤ 8) × (4 ≤ length (now block)) ⌝ }
     ensures { λ r. ⌜ progressOf r ≡ andThen (checkGroups n links fault (now (block .entry)) (routesDue n f fault side quorum) 4 0) (λ at carriages. checkReports n f links fault (now (block .entry)) (members fault) at carriages) ⌝ }
 {
+    let lowests = sets::lowests();
     let receivers = sets::minus(quorum, side);
-    let inward = check_fan(n, links, fault, block, 4, 0, 17, side, receivers, f);
+    let inward = check_fan(
+        n,
+        links,
+        fault,
+        block,
+        4,
+        0,
+        17,
+        side,
+        receivers,
+        f,
+        &lowests,
+    );
     match inward {
         Progress::Stopped(ground) => Progress::Stopped(ground),
         Progress::Reached { at, carriages } => check_among(
@@ -400,6 +445,7 @@ fn check_rest(
             block,
             at,
             carriages,
+            &lowests,
         ),
     }
 }

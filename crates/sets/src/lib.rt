@@ -72,6 +72,13 @@ pub fn sizes() -> [u8; 256]
     SIZES
 }
 
+// The table of lowest members, for a caller that looks many of them up.
+pub fn lowests() -> [u8; 256]
+    ensures { λ r. ⌜ TableOf lowest r ⌝ }
+{
+    LOWEST
+}
+
 pub fn size(s: u8) -> u8
     ensures { λ r. ⌜ r ≡ size s ⌝ }
 {

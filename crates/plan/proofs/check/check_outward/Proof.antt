@@ -13,6 +13,7 @@ use Rattle.plan.specs.Check.{width, andThen, checkGroups, checkReports}
 use Rattle.plan.proofs.Parts.{halts-then, moves-then, others-is}
 use Rattle.plan.proofs.Bounds.{fan-bound, code-bound}
 use borrow.Author.Needs.{needs}
+use borrow.Author.Needs.{needs}
 use Rattle.plan.proofs.check.check_outward.Statement.{statement}
 use Rattle.plan.proofs.check.check_outward.Tie as tie
 use Rattle.plan.proofs.check.check_outward.Reads as reads
@@ -33,7 +34,7 @@ minus-requires-2 c κs = search needs
 
 check-fan-requires : tie.Need-check-fan-requires
 unfolding width
-check-fan-requires c κs = (refl, c .before .before .before .before .pre .1, c .before .before .before .before .pre .2)
+check-fan-requires c κs = (refl, c .before .before .before .before .pre .1, c .before .before .before .before .pre .2, c .before .before .before .before .pre .3)
 
 enum-known-outward : tie.Need-enum-known-outward
 enum-known-outward c = search needs

@@ -1,5 +1,5 @@
 -- `plan::check::check_to_one` meets its contract. The invariant of its loop: the sources that are left give the answer of the whole. The measure is
--- how many servers are left to look at. Assumes nothing.
+-- how many are left. Assumes nothing.
 use mathlib.Core.Path.{_≡_, refl, sym, ap, _∙_}
 use mathlib.Core.Logic.{_⊎_, inl, inr, ⊎-elim}
 use mathlib.Core.Bool.{Bool, true, false}
@@ -8,74 +8,78 @@ use native.Mathlib.Omega.{arith}
 use borrow.Author.Needs.{needs}
 use lib.ListN.{length}
 use Rattle.sets.specs.Sets.{has}
-use Rattle.plan.specs.Members.{listFrom, members}
+use Rattle.plan.specs.Members.{members}
 use Rattle.plan.specs.Due.{toOne}
-use Rattle.plan.specs.Check.{width, checkGroups}
-use Rattle.plan.proofs.Walks.{walk, toOneStep, toOne-self, toOne-other, toOne-walk, walk-done, walk-halts}
-use Rattle.plan.proofs.Bounds.{turn-skips, turn-stays, turn-moves, toOne-bound}
+use Rattle.plan.specs.Check.{checkGroups}
+use Rattle.plan.proofs.Walks.{walk, toOneStep, toOne-walk, toOne-other}
+use Rattle.plan.proofs.Bounds.{toOne-bound}
+use Rattle.plan.proofs.Lowests.{row-others, out-first, out-stays, lowest-other, set-done, set-less, set-halts, set-moves}
 use Rattle.plan.proofs.check.check_to_one.Statement.{statement}
 use Rattle.plan.proofs.check.check_to_one.Tie as tie
 use Rattle.plan.proofs.check.check_to_one.Reads as reads
 use Rattle.plan.proofs.check.check_to_one.Lts as lts
 use Rattle.plan.proofs.check.check_one.Reads as check-one-reads
-use Rattle.sets.proofs.member.Reads as member-reads
+use Rattle.sets.proofs.minus.Reads as minus-reads
 use Rattle.sets.proofs.single.Reads as single-reads
 
 abbrev Inv-loop : tie.InvT-loop
-Inv-loop n links fault plan start before quorum receiver at₀ carriages₀ source₀ at carriages source =
-    (source ≤ 8) × (at ≤ length plan) × (carriages ≤ 1 * at)
-    × (walk (toOneStep n links fault plan receiver) (listFrom (8 - source) source (has quorum)) at carriages ≡ checkGroups n links fault plan (toOne receiver (members quorum)) start before)
+Inv-loop n links fault plan start before quorum receiver lowests at₀ carriages₀ left₀ at carriages left =
+    (left < 256) × (at ≤ length plan) × (carriages ≤ 1 * at)
+    × (has left receiver ≡ false) × (walk (toOneStep n links fault plan receiver) (members left) at carriages ≡ checkGroups n links fault plan (toOne receiver (members quorum)) start before)
 
 abbrev μ-loop : tie.MeasureT-loop
-μ-loop n links fault plan start before quorum receiver at₀ carriages₀ source₀ at carriages source =
-    8 - source
-
-loop-holds : tie.Need-loop-holds Inv-loop μ-loop
-unfolding members
-loop-holds c = let a = c .before .args in
-    (omega arith, c .before .pre .1, omega arith, sym (toOne-walk (a .n) (a .links) (a .fault) (a .plan .now) (a .receiver) (members (a .quorum)) (a .start) (a .before)))
-
-member-requires : tie.Need-member-requires Inv-loop μ-loop
-member-requires c κs = search needs
+μ-loop n links fault plan start before quorum receiver lowests at₀ carriages₀ left₀ at carriages left =
+    length (members left)
 
 single-requires : tie.Need-single-requires Inv-loop μ-loop
 single-requires c κs = search needs
 
+minus-requires : tie.Need-minus-requires Inv-loop μ-loop
+minus-requires c κs = search needs
+
+loop-holds : tie.Need-loop-holds Inv-loop μ-loop
+loop-holds c = let a = c .before .before .before .args in
+    (search needs, c .before .before .before .pre .1, omega arith, out-first (a .quorum) (a .receiver) _ _ (c .before .before .before .pre .2) (c .before .single .ensures) (c .minus .ensures), row-others (a .n) (a .links) (a .fault) (a .plan .now) (a .receiver) (a .quorum) _ _ (c .before .before .before .pre .2) (c .before .single .ensures) (c .minus .ensures) (a .start) (a .before) ∙ sym (toOne-walk (a .n) (a .links) (a .fault) (a .plan .now) (a .receiver) (members (a .quorum)) (a .start) (a .before)))
+
+cast-source : tie.Need-cast-source Inv-loop μ-loop
+cast-source c = search needs
+
+element-copy-out-source : tie.Need-element-copy-out-source Inv-loop μ-loop
+element-copy-out-source c = search needs
+
+single-requires-2 : tie.Need-single-requires-2 Inv-loop μ-loop
+single-requires-2 c κs = search needs
+
+minus-requires-2 : tie.Need-minus-requires-2 Inv-loop μ-loop
+minus-requires-2 c κs = search needs
+
 check-one-requires : tie.Need-check-one-requires Inv-loop μ-loop
 check-one-requires c κs = omega arith
 
-enum-known-group : tie.Need-enum-known-group Inv-loop μ-loop
-enum-known-group c = search needs
+enum-known-route : tie.Need-enum-known-route Inv-loop μ-loop
+enum-known-route c = search needs
 
 returns : tie.Need-returns Inv-loop μ-loop
-returns c = let a = c .before .before .before .before .before .before .before .before .before .before .before .args in
-    let l = c .before .before .before .before .before .before .before .before .before .loop in
-    walk-halts (toOneStep (a .n) (a .links) (a .fault) (a .plan .now) (a .receiver)) 8 (has (a .quorum)) _ (l .source) (l .at) (l .carriages) (l .inv .3) (omega arith)
-    _ (c .before .before .before .before .before .before .before .member .ensures) (c .before .before .before .before .before .before .if1 .taken) _ (toOne-other (a .n) (a .links) (a .fault) (a .plan .now) (a .receiver) (l .source) (l .at) (l .carriages) (c .before .before .before .before .before .if2 .taken) _ (c .before .before .before .before .single .ensures) _ (c .before .before .before .check-one .ensures)) _ refl _ (c .before .group .given .1)
+returns c = let a = c .before .before .before .before .before .before .before .before .before .before .before .before .args in
+    let l = c .before .before .before .before .before .before .before .before .loop in
+    set-halts (toOneStep (a .n) (a .links) (a .fault) (a .plan .now) (a .receiver)) _ (l .left) (l .at) (l .carriages) (l .inv .4) (l .inv .0) (c .before .before .before .before .before .before .before .loop-test .taken) _ _ _ (c .before .before .before .before .before .before .before .before .before .before .before .before .pre .3 .entry (l .left) (l .inv .0)) (c .before .before .before .before .before .single2 .ensures) (c .before .before .before .before .minus2 .ensures) _ (toOne-other (a .n) (a .links) (a .fault) (a .plan .now) (a .receiver) _ (l .at) (l .carriages) (lowest-other (l .left) (a .receiver) _ (l .inv .0) (c .before .before .before .before .before .before .before .loop-test .taken) (l .inv .3) (c .before .before .before .before .before .before .before .before .before .before .before .before .pre .3 .entry (l .left) (l .inv .0))) _ (c .before .before .before .before .before .single2 .ensures) _ (c .before .before .before .check-one .ensures)) _ (c .before .route .given .1)
 
-enum-known-group-2 : tie.Need-enum-known-group-2 Inv-loop μ-loop
-enum-known-group-2 c = search needs
-
-add-source : tie.Need-add-source Inv-loop μ-loop
-add-source c = search needs
+enum-known-route-2 : tie.Need-enum-known-route-2 Inv-loop μ-loop
+enum-known-route-2 c = search needs
 
 loop-less : tie.Need-loop-less Inv-loop μ-loop
-loop-less c = search needs
+loop-less c = let a = c .before .before .before .before .before .before .before .before .before .before .before .before .args in
+    let l = c .before .before .before .before .before .before .before .before .loop in
+    set-less (toOneStep (a .n) (a .links) (a .fault) (a .plan .now) (a .receiver)) _ (l .left) (l .at) (l .carriages) (l .inv .4) (l .inv .0) (c .before .before .before .before .before .before .before .loop-test .taken) _ _ _ (c .before .before .before .before .before .before .before .before .before .before .before .before .pre .3 .entry (l .left) (l .inv .0)) (c .before .before .before .before .before .single2 .ensures) (c .before .before .before .before .minus2 .ensures)
 
 loop-again : tie.Need-loop-again Inv-loop μ-loop
-loop-again c = let a = c .before .before .before .before .before .args in
-    let l = c .before .before .before .loop in
-    ⊎-elim
-    (λ w. turn-moves 1 (length (a .plan .now)) (toOneStep (a .n) (a .links) (a .fault) (a .plan .now) (a .receiver)) 8 (has (a .quorum)) _ (l .source) (l .at) (l .carriages) (l .inv .3) (omega arith) _ (c .before .member .ensures) (c .if1 .at) (c .if1 .carriages)
-    (w .0 .taken) _ (toOne-other (a .n) (a .links) (a .fault) (a .plan .now) (a .receiver) (l .source) (l .at) (l .carriages) (w .1 .taken) _ (w .2 .ensures) _ (w .3 .ensures)) (toOne-bound (a .n) (a .links) (a .fault) (a .plan .now) (a .receiver) (l .source) (l .at) (l .carriages) (l .inv .1) (l .inv .2)) _ _ (w .5 .given .1) (w .7) (w .8))
-    (λ v. ⊎-elim
-    (λ w. turn-stays 1 (length (a .plan .now)) (toOneStep (a .n) (a .links) (a .fault) (a .plan .now) (a .receiver)) 8 (has (a .quorum)) _ (l .source) (l .at) (l .carriages) (l .inv .3) (omega arith) _ (c .before .member .ensures) (c .if1 .at) (c .if1 .carriages) (w .0 .taken) (toOne-self (a .n) (a .links) (a .fault) (a .plan .now) (a .receiver) (l .source) (l .at) (l .carriages) (w .1 .left)) (l .inv .1) (l .inv .2) (w .2) (w .3))
-    (λ w. turn-skips 1 (length (a .plan .now)) (toOneStep (a .n) (a .links) (a .fault) (a .plan .now) (a .receiver)) 8 (has (a .quorum)) _ (l .source) (l .at) (l .carriages) (l .inv .3) (omega arith) _ (c .before .member .ensures) (c .if1 .at) (c .if1 .carriages) (w .0 .left) (l .inv .1) (l .inv .2) (w .1) (w .2))
-    v)
-    (c .if1 .came)
+loop-again c = let a = c .before .before .before .before .before .before .before .before .before .before .before .before .args in
+    let l = c .before .before .before .before .before .before .before .before .loop in
+    let x = set-moves (toOneStep (a .n) (a .links) (a .fault) (a .plan .now) (a .receiver)) _ (l .left) (l .at) (l .carriages) (l .inv .4) (l .inv .0) (c .before .before .before .before .before .before .before .loop-test .taken) _ _ _ (c .before .before .before .before .before .before .before .before .before .before .before .before .pre .3 .entry (l .left) (l .inv .0)) (c .before .before .before .before .before .single2 .ensures) (c .before .before .before .before .minus2 .ensures) _ (toOne-other (a .n) (a .links) (a .fault) (a .plan .now) (a .receiver) _ (l .at) (l .carriages) (lowest-other (l .left) (a .receiver) _ (l .inv .0) (c .before .before .before .before .before .before .before .loop-test .taken) (l .inv .3) (c .before .before .before .before .before .before .before .before .before .before .before .before .pre .3 .entry (l .left) (l .inv .0))) _ (c .before .before .before .before .before .single2 .ensures) _ (c .before .before .before .check-one .ensures)) 1 (length (a .plan .now)) (toOne-bound (a .n) (a .links) (a .fault) (a .plan .now) (a .receiver) _ (l .at) (l .carriages) (l .inv .1) (l .inv .2)) _ _ (c .before .route2 .given .1) in
+    (x .0, x .1, x .2, out-stays (l .left) _ _ (a .receiver) (c .before .before .before .before .minus2 .ensures) (l .inv .3), x .3)
 
 returns-2 : tie.Need-returns-2 Inv-loop μ-loop
-returns-2 c = let a = c .before .before .before .args in let l = c .before .loop in walk-done (toOneStep (a .n) (a .links) (a .fault) (a .plan .now) (a .receiver)) 8 (has (a .quorum)) _ (l .source) (l .at) (l .carriages) (l .inv .3) (omega arith)
+returns-2 c = let a = c .before .before .before .before .before .args in let l = c .before .loop in set-done (toOneStep (a .n) (a .links) (a .fault) (a .plan .now) (a .receiver)) _ (l .left) (l .at) (l .carriages) (l .inv .4) (search needs)
 
 pub check-to-one-spec : {M : Type 1} → statement M
 check-to-one-spec =
@@ -83,14 +87,17 @@ check-to-one-spec =
     (tie.spec
     Inv-loop
     μ-loop
-    loop-holds
-    member-requires
     single-requires
+    minus-requires
+    loop-holds
+    cast-source
+    element-copy-out-source
+    single-requires-2
+    minus-requires-2
     check-one-requires
-    enum-known-group
+    enum-known-route
     returns
-    enum-known-group-2
-    add-source
+    enum-known-route-2
     loop-less
     loop-again
     returns-2)

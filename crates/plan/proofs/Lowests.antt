@@ -1,0 +1,160 @@
+-- The members of a set, taken out from the lowest on.
+--     members-next    the lowest member, and then the members of what is left
+--     members-none    the empty set has none
+--     set-..          the loop that takes them out: what is left from here gives the answer of the whole
+--     row-others      a route from each other server: the receiver may be left out of the sources
+-- Assumes nothing.
+use mathlib.Core.Path.{_≡_, refl, sym, ap, _∙_}
+use mathlib.Core.Logic.{⊎-elim}
+use mathlib.Core.Bool.{Bool, true, false, cond, not, _&&_}
+use mathlib.Core.List.{List, [], _∷_}
+use Prim.Native.Nat.{ℕ, zero, suc, _+_, _*_, _≤_, _<_}
+use native.Mathlib.Omega.{arith}
+use lib.ListN.{length}
+use lib.Dec.{eqb, ltb}
+use borrow.Author.Tests.{lt-ltb, eq-eqb, ne-eqb, eqb-true, eqb-false}
+use Rattle.facts.proofs.Bools.{cases, clash, is-false}
+use Rattle.refusal.specs.declared.PlanGround.{PlanGround}
+use Rattle.sets.specs.Sets.{Set, has, single, minus, lowest, firstIn}
+use Rattle.sets.proofs.Members.{has-minus, has-single, has-empty, has-below, minus-small}
+use Rattle.sets.proofs.LowestMember.{lowest-in}
+use Rattle.network.specs.Links.{Links}
+use Rattle.plan.specs.Members.{listFrom, members}
+use Rattle.plan.specs.Check.{Progress, reached, stopped, andThen}
+use Rattle.plan.specs.Answers.{progressOf}
+use Rattle.plan.specs.declared.check.Progress as Code
+use Rattle.plan.proofs.Joins.{then-same}
+use Rattle.plan.proofs.Walks.{walk, toOneStep, toOne-self}
+use Rattle.plan.proofs.Bounds.{Bound, code-bound}
+
+-- tests that agree from lo on list the same
+list-same : (k lo : ℕ) (p q : Set) → ((i : ℕ) → lo ≤ i → p i ≡ q i) → listFrom k lo p ≡ listFrom k lo q
+unfolding listFrom
+list-same zero lo p q h = refl
+list-same (suc k) lo p q h =
+    let ih = list-same k (suc lo) p q (λ i g. h i (omega arith)) in
+    let e = h lo (omega arith) in
+    cases (q lo) (λ x. cc) (λ x. cc)
+
+first-from : (k lo : ℕ) (p : Set) → lo ≤ firstIn k lo p
+unfolding firstIn
+first-from zero lo p = omega arith
+first-from (suc k) lo p = let ih = first-from k (suc lo) p in cases (p lo) (λ e. rw e (omega arith)) (λ e. rw e (omega arith))
+
+-- the first one, and then those of the test without it
+list-first : (k lo : ℕ) (p q : Set) → p (firstIn k lo p) ≡ true → firstIn k lo p < lo + k → ((i : ℕ) → lo ≤ i → q i ≡ (p i && not (eqb (firstIn k lo p) i)))
+    → listFrom k lo p ≡ firstIn k lo p ∷ listFrom k lo q
+unfolding listFrom firstIn
+list-first zero lo p q t l h = absurd (omega arith)
+list-first (suc k) lo p q t l h =
+    cases (p lo)
+    (λ e. first k lo p q e (rw e at h))
+    (λ e. let t′ = rw e at t in
+    let l′ = rw e at l in
+    let h′ = rw e at h in
+    later k lo p q e h′ (list-first k (suc lo) p q t′ (omega arith) (λ i g. h′ i (omega arith))))
+  where
+    first : (k lo : ℕ) (p q : Set) → p lo ≡ true → ((i : ℕ) → lo ≤ i → q i ≡ (p i && not (eqb lo i)))
+        → cond (p lo) (lo ∷ listFrom k (suc lo) p) (listFrom k (suc lo) p) ≡ cond (p lo) lo (firstIn k (suc lo) p) ∷ cond (q lo) (lo ∷ listFrom k (suc lo) q) (listFrom k (suc lo) q)
+    first k lo p q e h =
+        let a = eq-eqb lo lo refl in
+        let b = h lo (omega arith) in
+        let out : q lo ≡ false = cc in
+        let same = list-same k (suc lo) p q (λ i g. let c = ne-eqb lo i (λ z. omega arith) in let d = h i (omega arith) in cases (p i) (λ x. cc) (λ x. cc)) in
+        rw (e, out) (ap (λ (l : List ℕ). lo ∷ l) same)
+
+    later : (k lo : ℕ) (p q : Set) → p lo ≡ false → ((i : ℕ) → lo ≤ i → q i ≡ (p i && not (eqb (firstIn k (suc lo) p) i)))
+        → listFrom k (suc lo) p ≡ firstIn k (suc lo) p ∷ listFrom k (suc lo) q
+        → cond (p lo) (lo ∷ listFrom k (suc lo) p) (listFrom k (suc lo) p) ≡ cond (p lo) lo (firstIn k (suc lo) p) ∷ cond (q lo) (lo ∷ listFrom k (suc lo) q) (listFrom k (suc lo) q)
+    later k lo p q e h ih =
+        let b = h lo (omega arith) in
+        let out : q lo ≡ false = cc in
+        rw (e, out) ih
+
+pub members-none : members 0 ≡ []
+unfolding members listFrom
+members-none = none 8 0
+  where
+    none : (k lo : ℕ) → listFrom k lo (has 0) ≡ []
+    none zero lo = refl
+    none (suc k) lo = rw (has-empty lo) (none k (suc lo))
+
+pub members-next : (s : ℕ) → s < 256 → (s ≡ 0 → ⊥) → members s ≡ lowest s ∷ members (minus s (single (lowest s)))
+unfolding members lowest
+members-next s h o =
+    let t = lowest-in s h o in
+    let l = has-below 8 s (lowest s) h t in
+    list-first 8 0 (has s) (has (minus s (single (lowest s)))) t l
+    (λ i g. has-minus s (single (lowest s)) i ∙ ap (λ (x : Bool). has s i && not x) (has-single (lowest s) i ∙ ap (λ (x : Bool). x && eqb (lowest s) i) (lt-ltb (lowest s) 8 l)))
+
+-- the loop: `left` is the set of those that are left
+
+module _ (step : ℕ → ℕ → ℕ → Progress) (whole : Progress) (left at carriages : ℕ) (so : walk step (members left) at carriages ≡ whole) where
+  pub set-done : left ≡ 0 → reached at carriages ≡ whole
+  unfolding walk
+  set-done z = rw (z, members-none) at so
+
+  module _ (h : left < 256) (o : left ≡ 0 → ⊥) (x one next : ℕ) (a : x ≡ lowest left) (b : one ≡ single x) (c : next ≡ minus left one) where
+    next-is : members left ≡ x ∷ members next
+    next-is =
+        let e : next ≡ minus left (single (lowest left)) = c ∙ ap (minus left) (b ∙ ap single a) in
+        members-next left h o ∙ ap (λ (y : ℕ). y ∷ members (minus left (single (lowest left)))) (sym a) ∙ ap (λ (y : ℕ). x ∷ members y) (sym e)
+
+    pub set-less : length (members next) < length (members left)
+    set-less = let e = ap length next-is in omega arith
+
+    module _ (y : Code.Progress) (z : progressOf y ≡ step x at carriages) where
+      now : andThen (progressOf y) (λ (a′ c′ : ℕ). walk step (members next) a′ c′) ≡ whole
+      unfolding walk
+      now = rw z (rw next-is at so)
+
+      pub set-halts : (g : PlanGround) → y ≡ Code.Progress.Stopped g → progressOf (Code.Progress.Stopped g) ≡ whole
+      set-halts g r = rw r at now
+
+      -- the next turn, with the bounds
+      pub set-moves : (m len : ℕ) → Bound m len (step x at carriages) → (a′ c′ : ℕ) → y ≡ Code.Progress.Reached a′ c′
+          → (next < 256) × (a′ ≤ len) × (c′ ≤ m * a′) × (walk step (members next) a′ c′ ≡ whole)
+      set-moves m len k a′ c′ r =
+          let l = code-bound m len (step x at carriages) k y z a′ c′ r in
+          let small : next < 256 = rw c (minus-small 8 left one h) in
+          (small, l .0, l .1, rw r at now)
+
+-- the receiver itself takes no step, so it may be left out of the sources
+
+module _ (n : ℕ) (links : Links) (F : ℕ) (s : List ℕ) (r : ℕ) where
+  without : (k lo : ℕ) (p q : Set) → ((i : ℕ) → lo ≤ i → q i ≡ (p i && not (eqb r i))) → (at carriages : ℕ)
+      → walk (toOneStep n links F s r) (listFrom k lo q) at carriages ≡ walk (toOneStep n links F s r) (listFrom k lo p) at carriages
+  unfolding listFrom walk
+  without zero lo p q h at carriages = refl
+  without (suc k) lo p q h at carriages =
+      let e = h lo (omega arith) in
+      let ih = without k (suc lo) p q (λ i g. h i (omega arith)) in
+      cases (p lo)
+      (λ t. cases (eqb r lo)
+      (λ u. let out : q lo ≡ false = e ∙ simp (t, u) in
+      let v = toOne-self n links F s r lo at carriages (sym (eqb-true r lo u)) in
+      rw (t, out) (ih at carriages ∙ sym (ap (λ (y : Progress). andThen y (λ (a c : ℕ). walk (toOneStep n links F s r) (listFrom k (suc lo) p) a c)) v)))
+      (λ u. let out : q lo ≡ true = e ∙ simp (t, u) in rw (t, out) (then-same (toOneStep n links F s r lo at carriages) _ _ ih)))
+      (λ t. let out : q lo ≡ false = e ∙ simp t in rw (t, out) (ih at carriages))
+
+  pub row-others : (S one others : ℕ) → r < 8 → one ≡ single r → others ≡ minus S one → (at carriages : ℕ)
+      → walk (toOneStep n links F s r) (members others) at carriages ≡ walk (toOneStep n links F s r) (members S) at carriages
+  unfolding members
+  row-others S one others l a b at carriages =
+      without 8 0 (has S) (has others)
+      (λ i g. ap (λ (x : ℕ). has x i) (b ∙ ap (minus S) a) ∙ has-minus S (single r) i ∙ ap (λ (x : Bool). has S i && not x) (has-single r i ∙ ap (λ (x : Bool). x && eqb r i) (lt-ltb r 8 l))) at carriages
+
+-- the receiver stays out of the sources that are left
+
+pub out-first : (S r one others : ℕ) → r < 8 → one ≡ single r → others ≡ minus S one → has others r ≡ false
+out-first S r one others l a b =
+    let e : has others r ≡ (has S r && not (ltb r 8 && eqb r r)) = ap (λ (x : ℕ). has x r) (b ∙ ap (minus S) a) ∙ has-minus S (single r) r ∙ ap (λ (x : Bool). has S r && not x) (has-single r r) in
+    let p = lt-ltb r 8 l in
+    let q = eq-eqb r r refl in
+    e ∙ cases (has S r) (λ t. simp (t, p, q)) (λ t. simp t)
+
+pub out-stays : (left one next r : ℕ) → next ≡ minus left one → has left r ≡ false → has next r ≡ false
+out-stays left one next r c e = ap (λ (x : ℕ). has x r) c ∙ has-minus left one r ∙ simp e
+
+pub lowest-other : (left r x : ℕ) → left < 256 → (left ≡ 0 → ⊥) → has left r ≡ false → x ≡ lowest left → x ≡ r → ⊥
+lowest-other left r x h o e a b = clash (has left r) (ap (has left) (sym b ∙ a) ∙ lowest-in left h o) e
