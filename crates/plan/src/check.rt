@@ -415,11 +415,11 @@ fn check_rest(
     side: u8,
     quorum: u8,
     block: &[u8],
+    lowests: &[u8; 256],
 ) -> Progress
-    requires { ⌜ (n ≤ 8) × (4 ≤ length (now block)) ⌝ }
+    requires { ⌜ (n ≤ 8) × (4 ≤ length (now block)) × TableOf lowest (now lowests) ⌝ }
     ensures { λ r. ⌜ progressOf r ≡ andThen (checkGroups n links fault (now (block .entry)) (routesDue n f fault side quorum) 4 0) (λ at carriages. checkReports n f links fault (now (block .entry)) (members fault) at carriages) ⌝ }
 {
-    let lowests = sets::lowests();
     let receivers = sets::minus(quorum, side);
     let inward = check_fan(
         n,
@@ -432,7 +432,7 @@ fn check_rest(
         side,
         receivers,
         f,
-        &lowests,
+        lowests,
     );
     match inward {
         Progress::Stopped(ground) => Progress::Stopped(ground),
@@ -445,7 +445,7 @@ fn check_rest(
             block,
             at,
             carriages,
-            &lowests,
+            lowests,
         ),
     }
 }
@@ -462,8 +462,16 @@ fn is_side(sound: u8, part: u8, side: u8) -> bool
 
 // The block that starts here, with the F and the cut that are due; the places are counted from its
 // 10 command.
-fn check_block(n: u8, f: u8, links: [[bool; 8]; 8], fault: u8, part: u8, block: &[u8]) -> Progress
-    requires { ⌜ n ≤ 8 ⌝ }
+fn check_block(
+    n: u8,
+    f: u8,
+    links: [[bool; 8]; 8],
+    fault: u8,
+    part: u8,
+    block: &[u8],
+    lowests: &[u8; 256],
+) -> Progress
+    requires { ⌜ (n ≤ 8) × TableOf lowest (now lowests) ⌝ }
     ensures { λ r. ⌜ progressOf r ≡ checkBlock n f links (now (block .entry)) (dueOf fault part) ⌝ }
 {
     if command::is_cut(block, 0) {
@@ -483,7 +491,7 @@ fn check_block(n: u8, f: u8, links: [[bool; 8]; 8], fault: u8, part: u8, block: 
             return Progress::Stopped(PlanGround::Quorum(0));
         }
         if sets::within(quorum, sound) {
-            return check_rest(n, f, links, fault, side, quorum, block);
+            return check_rest(n, f, links, fault, side, quorum, block, lowests);
         }
         return Progress::Stopped(PlanGround::Quorum(0));
     }
@@ -530,8 +538,9 @@ fn check_cuts(
     start: usize,
     before: usize,
     fault: u8,
+    lowests: &[u8; 256],
 ) -> Progress
-    requires { ⌜ (n ≤ 8) × (start ≤ length (now plan)) × (before ≤ 256 * start) × (length (now plan) ≤ 1048576) ⌝ }
+    requires { ⌜ (n ≤ 8) × (start ≤ length (now plan)) × (before ≤ 256 * start) × (length (now plan) ≤ 1048576) × TableOf lowest (now lowests) ⌝ }
     ensures { λ r. ⌜ progressOf r ≡ checkBlocks n f links (now (plan .entry)) (blocksOf fault (listFrom (2 ^ n) 0 (isPart (minus (full n) fault)))) start before ⌝ }
 {
     let servers = sets::full(n);
@@ -543,7 +552,7 @@ fn check_cuts(
     for p in 0..limit {
         let part = p as u8;
         if is_part(sound, low, part) {
-            let block = check_block(n, f, links, fault, part, &plan[at..]);
+            let block = check_block(n, f, links, fault, part, &plan[at..], lowests);
             match block {
                 Progress::Stopped(ground) => {
                     return Progress::Stopped(later(ground, at));
@@ -566,13 +575,14 @@ fn check_blocks(n: u8, f: u8, links: [[bool; 8]; 8], plan: &[u8]) -> Progress
     requires { ⌜ (n ≤ 8) × (length (now plan) ≤ 1048576) ⌝ }
     ensures { λ r. ⌜ progressOf r ≡ checkBlocks n f links (now (plan .entry)) (due n f) 0 0 ⌝ }
 {
+    let lowests = sets::lowests();
     let limit = (sets::full(n) as u16) + 1;
     let mut at: usize = 0;
     let mut carriages: usize = 0;
     for i in 0..limit {
         let fault = i as u8;
         if sets::size(fault) <= f {
-            let cuts = check_cuts(n, f, links, plan, at, carriages, fault);
+            let cuts = check_cuts(n, f, links, plan, at, carriages, fault, &lowests);
             match cuts {
                 Progress::Stopped(ground) => {
                     return Progress::Stopped(ground);

@@ -10,6 +10,7 @@ use Rattle.plan.specs.Check.{width}
 use Rattle.plan.proofs.Groups.{whole-command}
 use Rattle.plan.proofs.Parts.{sound-is, block-cut, block-other, block-fault, block-side, block-empty, block-outside, block-rest}
 use borrow.Author.Needs.{needs}
+use borrow.Author.Needs.{needs}
 use Rattle.plan.proofs.check.check_block.Statement.{statement}
 use Rattle.plan.proofs.check.check_block.Tie as tie
 use Rattle.plan.proofs.check.check_block.Reads as reads
@@ -62,26 +63,26 @@ shared-slice-read-quorum c = let z = whole-command (c .before .before .before .b
 
 returns-4 : tie.Need-returns-4
 returns-4 c = let a = c .before .before .before .before .before .before .before .before .before .before .before .before .before .before .args in
-    block-empty (a .n) (a .f) (a .links) (a .block .now) (a .fault) (a .part) _ (c .before .before .before .before .before .before .before .before .before .before .before .before .is-cut .ensures) (c .before .before .before .before .before .before .before .before .before .before .before .if1 .left) (c .before .before .before .before .before .before .before .before .before .if2 .left) (c .before .before .before .before .before .before .before .if3 .left) _ (sound-is (a .n) (a .fault) _ _ (c .before .before .before .before .before .before .before .before .before .before .before .before .before .before .pre) (c .before .before .before .before .before .before .full .ensures) (c .before .before .before .before .before .minus .ensures)) _ (c .before .before .before .is-side .ensures) (c .before .before .if4 .taken) (c .if5 .taken)
+    block-empty (a .n) (a .f) (a .links) (a .block .now) (a .fault) (a .part) _ (c .before .before .before .before .before .before .before .before .before .before .before .before .is-cut .ensures) (c .before .before .before .before .before .before .before .before .before .before .before .if1 .left) (c .before .before .before .before .before .before .before .before .before .if2 .left) (c .before .before .before .before .before .before .before .if3 .left) _ (sound-is (a .n) (a .fault) _ _ (c .before .before .before .before .before .before .before .before .before .before .before .before .before .before .pre .0) (c .before .before .before .before .before .before .full .ensures) (c .before .before .before .before .before .minus .ensures)) _ (c .before .before .before .is-side .ensures) (c .before .before .if4 .taken) (c .if5 .taken)
 
 within-requires : tie.Need-within-requires
 within-requires c κs = search needs
 
 check-rest-requires : tie.Need-check-rest-requires
 unfolding width
-check-rest-requires c κs = (c .before .before .before .before .before .before .before .before .before .before .before .before .before .before .before .before .pre, let z = whole-command (c .before .before .before .before .before .before .before .before .before .before .before .before .before .before .before .before .args .block .now) 0 4 (sym (c .before .before .before .before .before .before .before .before .before .before .before .before .before .before .is-cut .ensures) ∙ c .before .before .before .before .before .before .before .before .before .before .before .before .before .if1 .left) (ap width (c .before .before .before .before .before .before .before .before .before .before .before .if2 .left)) in omega arith)
+check-rest-requires c κs = (c .before .before .before .before .before .before .before .before .before .before .before .before .before .before .before .before .pre .0, let z = whole-command (c .before .before .before .before .before .before .before .before .before .before .before .before .before .before .before .before .args .block .now) 0 4 (sym (c .before .before .before .before .before .before .before .before .before .before .before .before .before .before .is-cut .ensures) ∙ c .before .before .before .before .before .before .before .before .before .before .before .before .before .if1 .left) (ap width (c .before .before .before .before .before .before .before .before .before .before .before .if2 .left)) in omega arith, c .before .before .before .before .before .before .before .before .before .before .before .before .before .before .before .before .pre .1)
 
 returns-5 : tie.Need-returns-5
 returns-5 c = let a = c .before .before .before .before .before .before .before .before .before .before .before .before .before .before .before .before .before .args in
-    block-rest (a .n) (a .f) (a .links) (a .block .now) (a .fault) (a .part) _ (c .before .before .before .before .before .before .before .before .before .before .before .before .before .before .before .is-cut .ensures) (c .before .before .before .before .before .before .before .before .before .before .before .before .before .before .if1 .left) (c .before .before .before .before .before .before .before .before .before .before .before .before .if2 .left) (c .before .before .before .before .before .before .before .before .before .before .if3 .left) _ (sound-is (a .n) (a .fault) _ _ (c .before .before .before .before .before .before .before .before .before .before .before .before .before .before .before .before .before .pre) (c .before .before .before .before .before .before .before .before .before .full .ensures) (c .before .before .before .before .before .before .before .before .minus .ensures)) _ (c .before .before .before .before .before .before .is-side .ensures) (c .before .before .before .before .before .if4 .taken) (c .before .before .before .if5 .left) _ (c .before .before .within .ensures) (c .before .if6 .taken) _ (c .check-rest .ensures)
+    block-rest (a .n) (a .f) (a .links) (a .block .now) (a .fault) (a .part) _ (c .before .before .before .before .before .before .before .before .before .before .before .before .before .before .before .is-cut .ensures) (c .before .before .before .before .before .before .before .before .before .before .before .before .before .before .if1 .left) (c .before .before .before .before .before .before .before .before .before .before .before .before .if2 .left) (c .before .before .before .before .before .before .before .before .before .before .if3 .left) _ (sound-is (a .n) (a .fault) _ _ (c .before .before .before .before .before .before .before .before .before .before .before .before .before .before .before .before .before .pre .0) (c .before .before .before .before .before .before .before .before .before .full .ensures) (c .before .before .before .before .before .before .before .before .minus .ensures)) _ (c .before .before .before .before .before .before .is-side .ensures) (c .before .before .before .before .before .if4 .taken) (c .before .before .before .if5 .left) _ (c .before .before .within .ensures) (c .before .if6 .taken) _ (c .check-rest .ensures)
 
 returns-6 : tie.Need-returns-6
 returns-6 c = let a = c .before .before .before .before .before .before .before .before .before .before .before .before .before .before .before .before .args in
-    block-outside (a .n) (a .f) (a .links) (a .block .now) (a .fault) (a .part) _ (c .before .before .before .before .before .before .before .before .before .before .before .before .before .before .is-cut .ensures) (c .before .before .before .before .before .before .before .before .before .before .before .before .before .if1 .left) (c .before .before .before .before .before .before .before .before .before .before .before .if2 .left) (c .before .before .before .before .before .before .before .before .before .if3 .left) _ (sound-is (a .n) (a .fault) _ _ (c .before .before .before .before .before .before .before .before .before .before .before .before .before .before .before .before .pre) (c .before .before .before .before .before .before .before .before .full .ensures) (c .before .before .before .before .before .before .before .minus .ensures)) _ (c .before .before .before .before .before .is-side .ensures) (c .before .before .before .before .if4 .taken) (c .before .before .if5 .left) _ (c .before .within .ensures) (c .if6 .left)
+    block-outside (a .n) (a .f) (a .links) (a .block .now) (a .fault) (a .part) _ (c .before .before .before .before .before .before .before .before .before .before .before .before .before .before .is-cut .ensures) (c .before .before .before .before .before .before .before .before .before .before .before .before .before .if1 .left) (c .before .before .before .before .before .before .before .before .before .before .before .if2 .left) (c .before .before .before .before .before .before .before .before .before .if3 .left) _ (sound-is (a .n) (a .fault) _ _ (c .before .before .before .before .before .before .before .before .before .before .before .before .before .before .before .before .pre .0) (c .before .before .before .before .before .before .before .before .full .ensures) (c .before .before .before .before .before .before .before .minus .ensures)) _ (c .before .before .before .before .before .is-side .ensures) (c .before .before .before .before .if4 .taken) (c .before .before .if5 .left) _ (c .before .within .ensures) (c .if6 .left)
 
 returns-7 : tie.Need-returns-7
 returns-7 c = let a = c .before .before .before .before .before .before .before .before .before .before .before .before .args in
-    block-side (a .n) (a .f) (a .links) (a .block .now) (a .fault) (a .part) _ (c .before .before .before .before .before .before .before .before .before .before .is-cut .ensures) (c .before .before .before .before .before .before .before .before .before .if1 .left) (c .before .before .before .before .before .before .before .if2 .left) (c .before .before .before .before .before .if3 .left) _ (sound-is (a .n) (a .fault) _ _ (c .before .before .before .before .before .before .before .before .before .before .before .before .pre) (c .before .before .before .before .full .ensures) (c .before .before .before .minus .ensures)) _ (c .before .is-side .ensures) (c .if4 .left)
+    block-side (a .n) (a .f) (a .links) (a .block .now) (a .fault) (a .part) _ (c .before .before .before .before .before .before .before .before .before .before .is-cut .ensures) (c .before .before .before .before .before .before .before .before .before .if1 .left) (c .before .before .before .before .before .before .before .if2 .left) (c .before .before .before .before .before .if3 .left) _ (sound-is (a .n) (a .fault) _ _ (c .before .before .before .before .before .before .before .before .before .before .before .before .pre .0) (c .before .before .before .before .full .ensures) (c .before .before .before .minus .ensures)) _ (c .before .is-side .ensures) (c .if4 .left)
 
 pub check-block-spec : {M : Type 1} → statement M
 check-block-spec =

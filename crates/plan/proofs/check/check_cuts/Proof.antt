@@ -27,12 +27,12 @@ use Rattle.sets.proofs.lowest.Reads as lowest-reads
 use Rattle.sets.proofs.minus.Reads as minus-reads
 
 abbrev Inv-loop : tie.InvT-loop
-Inv-loop n f links plan start before fault servers sound low limit at₀ carriages₀ p₀ at carriages p =
+Inv-loop n f links plan start before fault lowests servers sound low limit at₀ carriages₀ p₀ at carriages p =
     (p ≤ limit) × (at ≤ length plan) × (carriages ≤ 256 * at)
     × (walk (blockStep n f links plan fault) (listFrom (limit - p) p (isPart sound)) at carriages ≡ checkBlocks n f links plan (blocksOf fault (listFrom (2 ^ n) 0 (isPart (minus (full n) fault)))) start before)
 
 abbrev μ-loop : tie.MeasureT-loop
-μ-loop n f links plan start before fault servers sound low limit at₀ carriages₀ p₀ at carriages p =
+μ-loop n f links plan start before fault lowests servers sound low limit at₀ carriages₀ p₀ at carriages p =
     limit - p
 
 full-requires : tie.Need-full-requires Inv-loop μ-loop
@@ -70,7 +70,7 @@ part-check-block-end : tie.Need-part-check-block-end Inv-loop μ-loop
 part-check-block-end c = search needs
 
 check-block-requires : tie.Need-check-block-requires Inv-loop μ-loop
-check-block-requires c κs = c .before .before .before .before .before .before .before .before .before .pre .0
+check-block-requires c κs = (c .before .before .before .before .before .before .before .before .before .pre .0, c .before .before .before .before .before .before .before .before .before .pre .4)
 
 enum-known-block : tie.Need-enum-known-block Inv-loop μ-loop
 enum-known-block c = search needs
