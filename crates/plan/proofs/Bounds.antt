@@ -4,25 +4,25 @@
 --     ..-bound          each check keeps the bound
 -- Assumes nothing.
 use mathlib.Core.Path.{_≡_, refl, sym, ap, _∙_}
-use mathlib.Core.Bool.{Bool, true, false, cond, not, _&&_, _||_}
+use mathlib.Core.Bool.{Bool, true, false, not, _&&_, _||_}
 use mathlib.Core.List.{List, [], _∷_, _++_}
-use Prim.Native.Nat.{ℕ, zero, suc, _+_, _-_, _*_, _^_, _≤_, _<_}
+use Prim.Native.Nat.{ℕ, zero, suc, _+_, _-_, _*_, _≤_, _<_}
 use native.Mathlib.Omega.{arith}
 use lib.ListN.{length, getD, drop, length-drop}
-use lib.Dec.{eqb, ltb, lit<}
+use lib.Dec.{eqb}
 use borrow.Author.Tests.{eqb-true}
-use Rattle.facts.proofs.Bools.{cases, by-cond}
+use Rattle.facts.proofs.Bools.{by-cond}
 use Rattle.sets.specs.Sets.{Set, meet, minus, full, within, single}
 use Rattle.network.specs.Links.{Links}
 use Rattle.plan.specs.Members.{members, listFrom}
-use Rattle.plan.specs.Due.{DueBlock, Group, isPart, blocksOf, fan, toOne, pairs, routesDue}
+use Rattle.plan.specs.Due.{DueBlock, Group, blocksOf, fan, toOne, pairs, routesDue}
 use Rattle.plan.specs.Route.{isRoute, path, serversOf}
 use Rattle.plan.specs.Check.{Progress, reached, stopped, andThen, onward, width, isCut, isDue, isReport, routeAt, checkGroup, checkGroups, checkReports, checkBlock, checkBlocks}
 use Rattle.plan.specs.Answers.{progressOf, groupOf}
 use Rattle.plan.specs.declared.check.Progress as Code
 use Rattle.plan.proofs.Groups.{whole-command}
 use Rattle.plan.proofs.Joins.{groups-append}
-use Rattle.plan.proofs.Walks.{walk, walk-skips, walk-goes, walk-moves, fanStep, fan-walk, toOneStep, toOne-walk, rowStep, pairs-walk, reportStep, reports-walk, blockStep, cuts-walk, faultStep, blocks-walk}
+use Rattle.plan.proofs.Walks.{walk, walk-skips, walk-moves, fanStep, fan-walk, toOneStep, toOne-walk, rowStep, pairs-walk, reportStep, reports-walk, blockStep, cuts-walk}
 
 abbrev pub Bound : (m limit : ℕ) → Progress → Type 0
 Bound m limit (reached at carriages) = (at ≤ limit) × (carriages ≤ m * at)
@@ -62,11 +62,6 @@ module _ (m len : ℕ) (step : ℕ → ℕ → ℕ → Progress) (limit : ℕ) (
   pub turn-skips : b ≡ false → at ≤ len → carriages ≤ m * at → at′ ≡ at → carriages′ ≡ carriages
       → (i + 1 ≤ limit) × (at′ ≤ len) × (carriages′ ≤ m * at′) × (walk step (listFrom (limit - (i + 1)) (i + 1) p) at′ carriages′ ≡ whole)
   turn-skips f x y q r = rw (q, r) (omega arith, x, y, walk-skips step limit p whole i at carriages so h b e f)
-
-  -- a step that stays where it is
-  pub turn-stays : b ≡ true → step i at carriages ≡ reached at carriages → at ≤ len → carriages ≤ m * at → at′ ≡ at → carriages′ ≡ carriages
-      → (i + 1 ≤ limit) × (at′ ≤ len) × (carriages′ ≤ m * at′) × (walk step (listFrom (limit - (i + 1)) (i + 1) p) at′ carriages′ ≡ whole)
-  turn-stays t z x y q r = rw (q, r) (omega arith, x, y, walk-goes step limit p whole i at carriages so h b e t (step i at carriages) refl at carriages z)
 
   pub turn-moves : b ≡ true → (y : Code.Progress) → progressOf y ≡ step i at carriages → Bound m len (step i at carriages)
       → (a c : ℕ) → y ≡ Code.Progress.Reached a c → at′ ≡ a → carriages′ ≡ c

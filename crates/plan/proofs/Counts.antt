@@ -1,7 +1,5 @@
 -- How many blocks a plan has, computed from the definition: paper 01's four counts. Assumes nothing.
 use mathlib.Core.Path.{_≡_, refl}
-use mathlib.Core.List.{List, []}
-use Prim.Native.Nat.{ℕ}
 use lib.ListN.{length}
 use Rattle.sets.specs.Sets.{has, meet, minus, within, full, count, size, firstIn, lowest}
 use Rattle.plan.specs.Members.{listFrom}

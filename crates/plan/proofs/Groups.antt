@@ -1,20 +1,20 @@
 -- The loop over the separate routes to one receiver: what is left of the group from here gives the answer of the whole.
 -- Assumes nothing.
 use mathlib.Core.Path.{_≡_, refl, sym, ap, _∙_}
-use mathlib.Core.Bool.{Bool, true, false, cond, not, _&&_, _||_}
-use mathlib.Core.List.{List, [], _∷_}
-use Prim.Native.Nat.{ℕ, zero, suc, _+_, _-_, _≤_, _<_}
+use mathlib.Core.Bool.{Bool, true, false, cond, not}
+use mathlib.Core.List.{List, []}
+use Prim.Native.Nat.{ℕ, suc, _+_, _-_, _≤_, _<_}
 use native.Mathlib.Omega.{arith}
 use lib.ListN.{length, getD, take, drop, length-drop}
 use lib.Seq.{take-all}
-use lib.Dec.{eqb, ltb, leb}
+use lib.Dec.{eqb, ltb}
 use borrow.Author.Tests.{eq-eqb, ne-eqb, le-leb, ltb-false}
 use Rattle.facts.proofs.Bools.{cases, clash, is-false}
 use Rattle.sets.specs.Sets.{union, meet, minus, single}
 use Rattle.sets.proofs.Members.{meet-nothing}
 use Rattle.network.specs.Links.{Links}
 use Rattle.plan.specs.Due.{Group}
-use Rattle.plan.specs.Route.{path, serversOf, isPath, isRoute, checkedRoute}
+use Rattle.plan.specs.Route.{path, serversOf, isRoute, checkedRoute}
 use Rattle.plan.specs.Check.{Progress, reached, stopped, width, isCut, isDue, routeAt, checkGroup}
 use Rattle.plan.proofs.Paths.{route-not-empty}
 

@@ -5,22 +5,21 @@
 --     row-others      a route from each other server: the receiver may be left out of the sources
 -- Assumes nothing.
 use mathlib.Core.Path.{_≡_, refl, sym, ap, _∙_}
-use mathlib.Core.Logic.{⊎-elim}
 use mathlib.Core.Bool.{Bool, true, false, cond, not, _&&_}
 use mathlib.Core.List.{List, [], _∷_}
 use Prim.Native.Nat.{ℕ, zero, suc, _+_, _*_, _≤_, _<_}
 use native.Mathlib.Omega.{arith}
 use lib.ListN.{length}
 use lib.Dec.{eqb, ltb}
-use borrow.Author.Tests.{lt-ltb, eq-eqb, ne-eqb, eqb-true, eqb-false}
-use Rattle.facts.proofs.Bools.{cases, clash, is-false}
+use borrow.Author.Tests.{lt-ltb, eq-eqb, ne-eqb, eqb-true}
+use Rattle.facts.proofs.Bools.{cases, clash}
 use Rattle.refusal.specs.declared.PlanGround.{PlanGround}
 use Rattle.sets.specs.Sets.{Set, has, single, minus, lowest, firstIn}
 use Rattle.sets.proofs.Members.{has-minus, has-single, has-empty, has-below, minus-small}
 use Rattle.sets.proofs.LowestMember.{lowest-in}
 use Rattle.network.specs.Links.{Links}
 use Rattle.plan.specs.Members.{listFrom, members}
-use Rattle.plan.specs.Check.{Progress, reached, stopped, andThen}
+use Rattle.plan.specs.Check.{Progress, reached, andThen}
 use Rattle.plan.specs.Answers.{progressOf}
 use Rattle.plan.specs.declared.check.Progress as Code
 use Rattle.plan.proofs.Joins.{then-same}

@@ -4,19 +4,18 @@
 --     rest-split               the commands of a block after its opening, kind by kind
 --     block-..                 the answers of the block check
 -- Assumes nothing.
-use mathlib.Core.Path.{_≡_, refl, sym, ap, _∙_}
-use mathlib.Core.Bool.{Bool, true, false, cond, not, _&&_, _||_}
-use mathlib.Core.List.{List, [], _∷_, _++_}
-use Prim.Native.Nat.{ℕ, _+_, _-_, _≤_, _<_, min}
-use native.Mathlib.Omega.{arith}
-use lib.ListN.{length, getD}
+use mathlib.Core.Path.{_≡_, sym, ap, _∙_}
+use mathlib.Core.Bool.{Bool, true, false, _||_}
+use mathlib.Core.List.{List, _++_}
+use Prim.Native.Nat.{ℕ, _+_, _-_, _≤_, min}
+use lib.ListN.{getD}
 use lib.Dec.{eqb}
 use borrow.Author.Tests.{eq-eqb, ne-eqb}
 use Rattle.refusal.specs.declared.PlanGround.{PlanGround}
 use Rattle.sets.specs.Sets.{minus, full, within}
 use Rattle.network.specs.Links.{Links}
 use Rattle.plan.specs.Members.{members}
-use Rattle.plan.specs.Due.{Group, fan, pairs, routesDue}
+use Rattle.plan.specs.Due.{fan, pairs, routesDue}
 use Rattle.plan.specs.Check.{Progress, reached, stopped, andThen, isCut, isDue, checkGroups, checkReports, checkBlock}
 use Rattle.plan.specs.Answers.{progressOf, dueOf}
 use Rattle.plan.specs.declared.check.Progress as Code

@@ -4,7 +4,7 @@
 --     ..-bound         places and carriages stay within the plan's length
 -- Assumes nothing.
 use mathlib.Core.Path.{_≡_, refl, sym, ap, _∙_}
-use mathlib.Core.Bool.{Bool, true, false}
+use mathlib.Core.Bool.{Bool, true}
 use mathlib.Core.List.{List}
 use Prim.Native.Nat.{ℕ, _+_, _-_, _*_, _^_, _≤_, _<_, min}
 use native.Mathlib.Omega.{arith}
@@ -19,7 +19,7 @@ use Rattle.plan.specs.Check.{Progress, reached, stopped, onward, checkBl
 use Rattle.plan.specs.Answers.{progressOf, dueOf}
 use Rattle.plan.specs.declared.check.Progress as Code
 use Rattle.plan.proofs.Groups.{part-rest}
-use Rattle.plan.proofs.Walks.{walk, walk-stops, walk-goes, blockStep, cuts-walk}
+use Rattle.plan.proofs.Walks.{walk, walk-goes, blockStep, cuts-walk}
 use Rattle.plan.proofs.Bounds.{Bound, block-bound}
 use Rattle.plan.proofs.Cuts.{full-few}
 use Rattle.plan.proofs.Parts.{sound-is}

@@ -5,8 +5,8 @@
 -- Assumes nothing.
 use mathlib.Core.Path.{_≡_, refl, sym, ap, _∙_}
 use mathlib.Core.Bool.{Bool, true, false, cond, _&&_}
-use mathlib.Core.List.{List, [], _∷_, _++_}
-use Prim.Native.Nat.{ℕ, zero, suc, _+_, _-_, _^_, _≤_, _<_}
+use mathlib.Core.List.{List, [], _∷_}
+use Prim.Native.Nat.{ℕ, suc, _+_, _-_, _^_, _≤_, _<_}
 use native.Mathlib.Numerals.{add-one}
 use native.Mathlib.Omega.{arith}
 use lib.ListN.{getD, drop}
@@ -18,7 +18,7 @@ use Rattle.refusal.specs.declared.PlanGround.{PlanGround}
 use Rattle.sets.specs.Sets.{Set, single, minus, full}
 use Rattle.network.specs.Links.{Links}
 use Rattle.plan.specs.Members.{listFrom}
-use Rattle.plan.specs.Due.{DueBlock, Group, isPart, blocksOf, blocksOfAll, fan, toOne, pairs}
+use Rattle.plan.specs.Due.{isPart, blocksOf, blocksOfAll, fan, toOne, pairs}
 use Rattle.plan.specs.Check.{Progress, reached, stopped, andThen, onward, isCut, isDue, isReport, checkGroup, checkGroups, checkReports, checkBlock, checkBlocks}
 use Rattle.plan.specs.Answers.{progressOf, groupOf}
 use Rattle.plan.specs.declared.check.Progress as Code

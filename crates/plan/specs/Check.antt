@@ -1,12 +1,12 @@
 -- What the bytes of a plan give, command by command, each tested in the order of paper 01's table: 2, 7, 8, 9, 10, 11.
 --     checkPlan card plan  == the number of blocks and of carriages, or the one refusal, the card's first
-use mathlib.Core.Bool.{Bool, true, false, cond, not, _&&_, _||_}
-use mathlib.Core.List.{List, [], _∷_, _++_}
+use mathlib.Core.Bool.{Bool, true, cond, not, _&&_, _||_}
+use mathlib.Core.List.{List, [], _∷_}
 use Prim.Native.Nat.{ℕ, zero, suc, _+_, _-_}
-use lib.Dec.{eqb, ltb, leb}
+use lib.Dec.{eqb, ltb}
 use lib.ListN.{length, getD, take, drop}
 use Rattle.refusal.specs.Refused.{Refused, plan}
-use Rattle.sets.specs.Sets.{has, union, meet, minus, within, full, size, single}
+use Rattle.sets.specs.Sets.{union, meet, minus, within, full, size, single}
 use Rattle.network.specs.Links.{Links, linkedIn}
 use Rattle.network.specs.Card.{Network, network, refused, readCard}
 use Rattle.plan.specs.Members.{members}

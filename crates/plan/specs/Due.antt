@@ -2,7 +2,7 @@
 -- A way is known by the part that holds the lowest server of V−F.
 --     due n f            == the blocks that are due, in order: F and that part
 --     routesDue ..       == the routes that are due in a block with this F, A and S, in order, by receiver
-use mathlib.Core.Bool.{Bool, true, false, cond, not, _&&_}
+use mathlib.Core.Bool.{Bool, cond, not, _&&_}
 use mathlib.Core.List.{List, [], _∷_, _++_}
 use Prim.Native.Nat.{ℕ, _+_, _^_}
 use lib.Dec.{eqb, leb}

@@ -1,5 +1,5 @@
 -- The members of a set as a list, ascending, of the eight that there can be.
-use mathlib.Core.Bool.{Bool, true, false, cond}
+use mathlib.Core.Bool.{cond}
 use mathlib.Core.List.{List, [], _∷_}
 use Prim.Native.Nat.{ℕ, zero, suc}
 use Rattle.sets.specs.Sets.{Set, has}

@@ -3,7 +3,7 @@
 --     isRoute ..      == at least two servers, none twice and none in F, each linked to the next, from a source to the receiver
 use mathlib.Core.Bool.{Bool, true, false, cond, not, _&&_}
 use mathlib.Core.List.{List, [], _∷_}
-use Prim.Native.Nat.{ℕ, zero, suc}
+use Prim.Native.Nat.{ℕ}
 use lib.Dec.{eqb, ltb, leb}
 use lib.ListN.{length, take}
 use Rattle.sets.specs.Sets.{has, union, single}

@@ -23,7 +23,7 @@ use Rattle.sets.proofs.Members.{meet-comm, minus-small, apart-union, apart-left
 use Rattle.network.specs.Links.{Links}
 use Rattle.plan.specs.Due.{Group}
 use Rattle.plan.specs.Route.{path, serversOf, isRoute}
-use Rattle.plan.specs.Check.{Progress, reached, stopped, width, isCut, isDue, routeAt, andThen, checkGroup}
+use Rattle.plan.specs.Check.{reached, width, isCut, isDue, routeAt, checkGroup}
 use Rattle.plan.proofs.Groups.{whole-command}
 use Rattle.rules.specs.Blocks.{Route, sourceOf, receiverOf, operand, encodeRoutes, routesAt}
 use Rattle.rules.specs.Rules.{Each, IsRoute, Separate, AllSeparate}

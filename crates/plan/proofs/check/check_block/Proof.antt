@@ -1,11 +1,8 @@
 -- `plan::check::check_block` meets its contract. Assumes nothing.
-use mathlib.Core.Path.{_≡_, refl, sym, ap, _∙_}
-use mathlib.Core.Logic.{_⊎_, inl, inr, ⊎-elim}
-use mathlib.Core.Bool.{Bool, true, false}
-use Prim.Native.Nat.{ℕ, _+_, _-_, _*_, _^_, _≤_, _<_}
+use mathlib.Core.Path.{refl, sym, ap, _∙_}
+use Prim.Native.Nat.{_-_}
 use native.Mathlib.Omega.{arith}
 use borrow.Author.Needs.{needs}
-use lib.ListN.{length, getD}
 use Rattle.plan.specs.Check.{width}
 use Rattle.plan.proofs.Groups.{whole-command}
 use Rattle.plan.proofs.Parts.{sound-is, block-cut, block-other, block-fault, block-side, block-empty, block-outside, block-rest}

@@ -1,12 +1,11 @@
 -- `plan::check::check_cuts` meets its contract. The invariant of its loop: the parts that are left give the answer of the whole. The measure is
 -- how many sets are left to look at. Assumes nothing.
-use mathlib.Core.Path.{_≡_, refl, sym, ap, _∙_}
-use mathlib.Core.Logic.{_⊎_, inl, inr, ⊎-elim}
-use mathlib.Core.Bool.{Bool, true, false}
-use Prim.Native.Nat.{ℕ, _+_, _-_, _*_, _^_, _≤_, _<_}
+use mathlib.Core.Path.{_≡_, refl}
+use mathlib.Core.Logic.{_⊎_, ⊎-elim}
+use Prim.Native.Nat.{_-_, _*_, _^_, _≤_}
 use native.Mathlib.Omega.{arith}
 use borrow.Author.Needs.{needs}
-use lib.ListN.{length, take, drop}
+use lib.ListN.{length}
 use Rattle.sets.specs.Sets.{minus, full}
 use Rattle.plan.specs.Members.{listFrom}
 use Rattle.plan.specs.Due.{isPart, blocksOf}

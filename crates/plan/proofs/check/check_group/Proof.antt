@@ -1,13 +1,9 @@
 -- `plan::check::check_group` meets its contract. The invariant of its loop: what is left of the group gives the answer of the whole. The measure is
 -- how many routes are left. Assumes nothing.
 use mathlib.Core.Path.{_≡_, refl, sym, ap, _∙_}
-use mathlib.Core.Logic.{_⊎_, inl, inr, ⊎-elim}
-use mathlib.Core.Bool.{Bool, true, false}
 use Prim.Native.Nat.{ℕ, _+_, _-_, _≤_, _<_}
 use native.Mathlib.Omega.{arith}
 use borrow.Author.Needs.{needs}
-use mathlib.Core.List.{List, []}
-use lib.ListN.{length, getD, take, drop}
 use Rattle.plan.specs.Route.{checkedRoute}
 use Rattle.plan.specs.Check.{checkGroup}
 use Rattle.plan.specs.Answers.{groupOf}

@@ -1,15 +1,13 @@
 -- `plan::check::check_outward` meets its contract. Assumes nothing.
-use mathlib.Core.Path.{_≡_, refl, sym, ap, _∙_}
-use mathlib.Core.Logic.{_⊎_, inl, inr, ⊎-elim}
-use mathlib.Core.Bool.{Bool, true, false}
-use Prim.Native.Nat.{ℕ, _+_, _-_, _*_, _^_, _≤_, _<_}
+use mathlib.Core.Path.{refl, ap, _∙_}
+use Prim.Native.Nat.{ℕ, _-_}
 use native.Mathlib.Omega.{arith}
 use borrow.Author.Needs.{needs}
 use lib.ListN.{length}
 use Rattle.sets.specs.Sets.{minus, full}
 use Rattle.plan.specs.Members.{members}
-use Rattle.plan.specs.Due.{fan, pairs, routesDue}
-use Rattle.plan.specs.Check.{width, andThen, checkGroups, checkReports}
+use Rattle.plan.specs.Due.{fan}
+use Rattle.plan.specs.Check.{width, checkGroups, checkReports}
 use Rattle.plan.proofs.Parts.{halts-then, moves-then, others-is}
 use Rattle.plan.proofs.Bounds.{fan-bound, code-bound}
 use borrow.Author.Needs.{needs}

@@ -1,13 +1,8 @@
 -- `plan::command::is_cut` meets its contract. Each test turns one part of the definition (`Commands`). Assumes nothing.
 use Rattle.plan.proofs.Commands.{cut-none, cut-unknown, cut-short}
-use mathlib.Core.Path.{_≡_, refl, sym, ap, _∙_}
-use mathlib.Core.Logic.{_⊎_, inl, inr, ⊎-elim}
-use mathlib.Core.Bool.{Bool, true, false}
-use Prim.Native.Nat.{ℕ, _+_, _-_, _≤_, _<_}
-use native.Mathlib.Omega.{arith}
+use Prim.Native.Nat.{_-_}
 use borrow.Author.Needs.{needs}
-use borrow.Author.Tests.{lt-ltb, le-ltb, eq-eqb, ne-eqb}
-use Rattle.plan.specs.Check.{width, isCut}
+use Rattle.plan.specs.Check.{width}
 use Rattle.plan.proofs.command.is_cut.Statement.{statement}
 use Rattle.plan.proofs.command.is_cut.Tie as tie
 use Rattle.plan.proofs.command.is_cut.Reads as reads

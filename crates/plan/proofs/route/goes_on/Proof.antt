@@ -1,13 +1,10 @@
 -- `plan::route::goes_on` meets its contract. The invariant of its loop: the walk from here on gives the answer of the whole walk. The measure is what
 -- is left of the path. Assumes nothing.
-use mathlib.Core.Path.{_≡_, refl, sym, ap, _∙_}
-use mathlib.Core.Logic.{_⊎_, inl, inr, ⊎-elim}
-use mathlib.Core.Bool.{Bool, true, false}
-use Prim.Native.Nat.{ℕ, _+_, _-_, _*_, _^_, _≤_, _<_}
+use mathlib.Core.Path.{_≡_, refl, ap, _∙_}
+use Prim.Native.Nat.{ℕ, _-_, _≤_, _<_}
 use native.Mathlib.Omega.{arith}
 use borrow.Author.Needs.{needs}
-use mathlib.Core.List.{List, []}
-use lib.ListN.{length, getD, take, drop}
+use lib.ListN.{getD, take, drop}
 use Rattle.facts.proofs.Rows.{row-long}
 use Rattle.sets.specs.Sets.{union, single}
 use Rattle.network.specs.Links.{linkedIn}

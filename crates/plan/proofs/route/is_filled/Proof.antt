@@ -1,13 +1,11 @@
 -- `plan::route::is_filled` meets its contract. The invariant of its loop: what is left is fill exactly if the whole is. The measure is what is left
 -- of the eight bytes. Assumes nothing.
-use mathlib.Core.Path.{_≡_, refl, sym, ap, _∙_}
-use mathlib.Core.Logic.{_⊎_, inl, inr, ⊎-elim}
-use mathlib.Core.Bool.{Bool, true, false}
-use Prim.Native.Nat.{ℕ, _+_, _-_, _≤_, _<_}
+use mathlib.Core.Path.{_≡_, refl, _∙_}
+use Prim.Native.Nat.{_-_, _≤_}
 use native.Mathlib.Omega.{arith}
 use borrow.Author.Needs.{needs}
-use lib.ListN.{length, getD, take, drop}
-use Rattle.plan.specs.Route.{path, isFill, goesOn}
+use lib.ListN.{take, drop}
+use Rattle.plan.specs.Route.{isFill}
 use Rattle.plan.proofs.Paths.{fill-stops, fill-passes, fill-ends}
 use Rattle.plan.proofs.route.is_filled.Statement.{statement}
 use Rattle.plan.proofs.route.is_filled.Tie as tie

@@ -1,14 +1,12 @@
 -- `plan::route::path_length` meets its contract. The invariant of its loop: the servers passed and those still to come make up the path. The measure
 -- is what is left of the eight bytes. Assumes nothing.
-use mathlib.Core.Path.{_≡_, refl, sym, ap, _∙_}
-use mathlib.Core.Logic.{_⊎_, inl, inr, ⊎-elim}
-use mathlib.Core.Bool.{Bool, true, false}
-use Prim.Native.Nat.{ℕ, _+_, _-_, _≤_, _<_}
+use mathlib.Core.Path.{_≡_}
+use Prim.Native.Nat.{_+_, _-_, _≤_}
 use native.Mathlib.Omega.{arith}
 use borrow.Author.Needs.{needs}
-use lib.ListN.{length, getD, take, drop}
-use Rattle.plan.specs.Route.{path, isFill, goesOn}
-use Rattle.plan.proofs.Paths.{path-starts, path-stops, path-passes, path-ends}
+use lib.ListN.{length, take, drop}
+use Rattle.plan.specs.Route.{path}
+use Rattle.plan.proofs.Paths.{path-stops, path-passes, path-ends}
 use Rattle.plan.proofs.route.path_length.Statement.{statement}
 use Rattle.plan.proofs.route.path_length.Tie as tie
 use Rattle.plan.proofs.route.path_length.Reads as reads
