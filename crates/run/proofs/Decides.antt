@@ -1,0 +1,152 @@
+-- Demand 3 on the definitions: a call that is not refused decides as Algorithm BC with the plan's choices, so its sound servers agree on some
+-- sound server's input.
+--     called       what a call that is not refused has passed
+--     decided-at   the byte of a sound server in the lent buffer
+--     demand       demand 3
+-- Assumes nothing.
+use mathlib.Core.Path.{_≡_, refl, sym, ap, _∙_}
+use mathlib.Core.Bool.{Bool, true, false, cond, not, _&&_}
+use mathlib.Core.List.{List, [], _∷_, _++_}
+use Prim.Native.Nat.{ℕ, zero, suc, _+_, _^_, _≤_, _<_}
+use native.Mathlib.Omega.{arith}
+use lib.Bits.{bitAnd, and-le-r}
+use lib.Dec.{eqb, ltb, leb}
+use lib.ListN.{length, getD, drop, replicate, List·getD-append}
+use borrow.Author.Tests.{eqb-true, ltb-true, ltb-false, leb-true}
+use Rattle.facts.proofs.Bools.{and-left, and-right}
+use Rattle.refusal.specs.Refused.{Refused, call}
+use Rattle.sets.specs.Sets.{Out, has, within, full, size, count}
+use Rattle.sets.proofs.Members.{full-small}
+use Rattle.sets.proofs.Counts.{size-count}
+use Rattle.network.specs.Links.{Links}
+use Rattle.network.specs.Card.{network, readCard}
+use Rattle.network.proofs.Main.{card-proper}
+use Rattle.plan.specs.Due.{due}
+use Rattle.plan.specs.Check.{Totals, totals, turned, checkPlan}
+use Rattle.rules.specs.Blocks.{decodePlan}
+use Rattle.rules.proofs.Main.{decodes}
+use Rattle.run.specs.Steps.{Values, held, valuesFrom, runBlocks}
+use Rattle.run.specs.Bc.{bc}
+use Rattle.run.specs.Choices.{choicesOf}
+use Rattle.run.specs.Run.{areBits, checkCall, onAccepted, runOn, runPlan, decided, written, lentAfter}
+use Rattle.run.specs.Demand.{Demand3}
+use Rattle.run.proofs.Planned.{planned-sound, planned-covers}
+use Rattle.run.proofs.Folded.{run-same}
+use Rattle.run.proofs.Someone.{some-sound}
+use Rattle.run.proofs.Main.{validity, agreement}
+
+-- 0 for an answer, 1 for a refusal
+abbrev kind : Totals → ℕ
+kind (totals blocks carriages) = 0
+kind (turned r) = 1
+
+turned-totals {ℓ} : {C : Type ℓ} (r : Refused) (b c : ℕ) → turned r ≡ totals b c → C
+turned-totals r b c e = absurd (let z : _≡_ {A = ℕ} 1 0 = ap kind e in omega arith)
+
+-- what a call that is not refused has passed
+pub record Called (card plan inputs : List ℕ) (X : ℕ) (lent : List ℕ) (n f : ℕ) : Type 0 where
+  pub blocks : ℕ
+  pub carriages : ℕ
+  pub checked : checkPlan card plan ≡ totals blocks carriages
+  pub whole : length inputs ≡ n
+  pub bits : areBits inputs ≡ true
+  pub inside : within X (full n) ≡ true
+  pub few : size X ≤ f
+  pub room : n ≤ length lent
+
+test : (b : Bool) (r : Refused) (x : Totals) (k c : ℕ) → cond (not b) (turned r) x ≡ totals k c → (b ≡ true) × (x ≡ totals k c)
+test true r x k c e = (refl, e)
+test false r x k c e = turned-totals r k c e
+
+test-not : (b : Bool) (r : Refused) (x : Totals) (k c : ℕ) → cond b (turned r) x ≡ totals k c → (b ≡ false) × (x ≡ totals k c)
+test-not true r x k c e = turned-totals r k c e
+test-not false r x k c e = (refl, e)
+
+accepted : (t : Totals) (n f : ℕ) (inputs : List ℕ) (X : ℕ) (lent : List ℕ) (k c : ℕ) → onAccepted n f inputs X lent t ≡ totals k c
+    → (b d : ℕ) × (t ≡ totals b d) × (checkCall n f inputs X lent t ≡ totals k c)
+accepted (totals b d) n f inputs X lent k c e = (b, d, refl, e)
+accepted (turned r) n f inputs X lent k c e = turned-totals r k c e
+
+pub called : (card plan inputs : List ℕ) (X : ℕ) (lent : List ℕ) (n f : ℕ) (links : Links) → readCard card ≡ network n f links
+    → (k c : ℕ) → runPlan card plan inputs X lent ≡ totals k c → Called card plan inputs X lent n f
+unfolding runPlan runOn checkCall
+called card plan inputs X lent n f links e k c q =
+    let q′ = rw e at q in
+    let (b, d, x, y) = accepted (checkPlan card plan) n f inputs X lent k c q′ in
+    let (i, y1) = test (eqb (length inputs) n && areBits inputs) (call 12) _ k c y in
+    let (j, y2) = test (within X (full n) && leb (size X) f) (call 13) _ k c y1 in
+    let (l, y3) = test-not (ltb (length lent) n) (call 14) _ k c y2 in
+    record {
+      blocks = b;
+      carriages = d;
+      checked = x;
+      whole = eqb-true (length inputs) n (and-left (eqb (length inputs) n) (areBits inputs) i);
+      bits = and-right (eqb (length inputs) n) (areBits inputs) i;
+      inside = and-left (within X (full n)) (leb (size X) f) j;
+      few = leb-true (size X) f (and-right (within X (full n)) (leb (size X) f) j);
+      room = ltb-false (length lent) n l;
+    }
+
+-- an input is a bit
+bit-at : (l : List ℕ) → areBits l ≡ true → (i : ℕ) → i < length l → getD l i 0 < 2
+unfolding areBits
+bit-at [] e i h = absurd (omega arith)
+bit-at (b ∷ bs) e zero h = ltb-true b 2 (and-left (ltb b 2) (areBits bs) e)
+bit-at (b ∷ bs) e (suc i) h = bit-at bs (and-right (ltb b 2) (areBits bs) e) i (omega arith)
+
+value-at : (k lo : ℕ) (g : ℕ → ℕ) (i : ℕ) → i < k → getD (valuesFrom k lo g) i 0 ≡ g (lo + i)
+unfolding valuesFrom
+value-at zero lo g i h = absurd (omega arith)
+value-at (suc k) lo g zero h = let z : lo + 0 ≡ lo = omega arith in sym (ap g z)
+value-at (suc k) lo g (suc i) h = let z : suc lo + i ≡ lo + suc i = omega arith in value-at k (suc lo) g i (omega arith) ∙ ap g z
+
+values-long : (k lo : ℕ) (g : ℕ → ℕ) → length (valuesFrom k lo g) ≡ k
+unfolding valuesFrom
+values-long zero lo g = refl
+values-long (suc k) lo g = ap suc (values-long k (suc lo) g)
+
+-- the byte of a sound server in the lent buffer
+pub decided-at : (n X : ℕ) (v rest : List ℕ) (i : ℕ) → i < n → Out (has X) i → getD (decided n X v ++ rest) i 0 ≡ held v i
+unfolding decided
+decided-at n X v rest i h o =
+    let l = values-long n 0 (λ (j : ℕ). cond (has X j) 2 (held v j)) in
+    let z : 0 + i ≡ i = omega arith in
+    List·getD-append (valuesFrom n 0 (λ (j : ℕ). cond (has X j) 2 (held v j))) rest 0 i (omega arith)
+    ∙ value-at n 0 (λ (j : ℕ). cond (has X j) 2 (held v j)) i h
+    ∙ ap (λ (j : ℕ). cond (has X j) 2 (held v j)) z
+    ∙ ap (λ (b : Bool). cond b 2 (held v i)) o
+
+small : (n X : ℕ) → within X (full n) ≡ true → X < 2 ^ n
+unfolding within
+small n X e = let a = eqb-true (bitAnd X (full n)) X e in let b = and-le-r X (full n) in let c = full-small n in omega arith
+
+pub demand : Demand3
+unfolding lentAfter written
+demand card plan inputs X table lent n f links e blocks carriages q =
+    let c = called card plan inputs X lent n f links e blocks carriages q in
+    let proper = card-proper card n f links e in
+    let order = decodes card plan n f links e (c .blocks, c .carriages, c .checked) .0 in
+    let bs = decodePlan n f plan in
+    let below = small n X (c .inside) in
+    let sized = size-count n X (proper .most) below in
+    let few : count n (has X) ≤ f = rw (← sized) (c .few) in
+    let start : Values = record { v = inputs; t = replicate 8 2 } in
+    let sound = planned-sound n f links bs (proper .most) order table 0 in
+    let bits : (i : ℕ) → i < n → held inputs i < 2 = λ i h. bit-at inputs (c .bits) i (rw (c .whole) h) in
+    let same : (i : ℕ) → i < n → held (runBlocks n X table 0 bs start .v) i ≡ bc n (has X) (choicesOf table 0 bs) (held inputs) i =
+    run-same n f links (due n f) bs (proper .most) order X table 0 sound start (held inputs) (λ i h. refl) bits in
+    let (s, l, o) = some-sound n f X links bs (proper .least) (proper .most) order few in
+    let (w, lw, ow, ew) = validity n f (has X) few (choicesOf table 0 bs) sound (held inputs) (λ i h u. bits i h) s l o in
+    let (pre, mid, post, cut, cover) = planned-covers n f X links bs (proper .most) order below (c .few) table 0 in
+    let alike : (i : ℕ) → i < n → Out (has X) i → bc n (has X) (choicesOf table 0 bs) (held inputs) i ≡ bc n (has X) (choicesOf table 0 bs) (held inputs) s =
+    λ i h u. rw cut (agreement n f (has X) few pre mid post (rw cut at sound) cover (held inputs) (λ j k t. bits j k) i s h u l o) in
+    rw (q, e)
+    (record {
+      bit = held inputs w;
+      small = bits w lw;
+      server = w;
+      among = lw;
+      sound = ow;
+      input = refl;
+      decided = λ i h u. decided-at n X (runBlocks n X table 0 bs start .v) (drop n lent) i h u ∙ same i h ∙ alike i h u ∙ ew;
+    })

@@ -1,0 +1,1 @@
+// The run: Algorithm BC with a plan's choices, block by block.
