@@ -26,6 +26,7 @@ pub record Report : Type 0 where
   pub receiver : ℕ
   pub reporters : ℕ
 
+-- F, A and S; the routes of 11 from A into S−A, of 12 among S, of 13 from S to the rest of V−F; the reports of 14 to F
 pub record Block : Type 0 where
   pub faults : ℕ
   pub side : ℕ
