@@ -33,7 +33,8 @@ use Rattle.run.specs.Demand.{Demand3}
 use Rattle.run.proofs.Planned.{planned-sound, planned-covers}
 use Rattle.run.proofs.Folded.{run-same}
 use Rattle.run.proofs.Someone.{some-sound}
-use Rattle.run.proofs.Main.{validity, agreement}
+use Rattle.run.proofs.Validity.{validity}
+use Rattle.run.proofs.Agreement.{agreement-of}
 
 -- 0 for an answer, 1 for a refusal
 abbrev kind : Totals → ℕ
@@ -139,7 +140,7 @@ demand card plan inputs X table lent n f links e blocks carriages q =
     let (w, lw, ow, ew) = validity n f (has X) few (choicesOf table 0 bs) sound (held inputs) (λ i h u. bits i h) s l o in
     let (pre, mid, post, cut, cover) = planned-covers n f X links bs (proper .most) order below (c .few) table 0 in
     let alike : (i : ℕ) → i < n → Out (has X) i → bc n (has X) (choicesOf table 0 bs) (held inputs) i ≡ bc n (has X) (choicesOf table 0 bs) (held inputs) s =
-    λ i h u. rw cut (agreement n f (has X) few pre mid post (rw cut at sound) cover (held inputs) (λ j k t. bits j k) i s h u l o) in
+    λ i h u. rw cut (agreement-of validity n f (has X) few pre mid post (rw cut at sound) cover (held inputs) (λ j k t. bits j k) i s h u l o) in
     rw (q, e)
     (record {
       bit = held inputs w;

@@ -52,7 +52,7 @@ unfoldable pub allAre : ℕ → List ℕ → Bool
 allAre x [] = true
 allAre x (y ∷ ys) = eqb y x && allAre x ys
 
--- 0 if all are 0, 1 if all are 1, else ⊥
+-- 0 if all are 0, 1 if all are 1, else ⊥; there are f + 1 of them, so never none
 unfoldable pub agreed : List ℕ → ℕ
 agreed l = cond (allAre 0 l) 0 (cond (allAre 1 l) 1 2)
 
