@@ -1,5 +1,6 @@
 -- The answers as rows of words, for callers without our enums. The first word says what the others are: 0 answered, 1 a bad split, 2 refused.
 -- A refusal's words are what is at fault (0 card, 1 plan, 2 call), the number and the place.
+use mathlib.Core.Path.{_≡_}
 use mathlib.Core.List.{List, [], _∷_}
 use Prim.Native.Nat.{ℕ}
 use Rattle.refusal.specs.Refused.{Refused, whoseOf, numberOf, placeOf}
@@ -7,10 +8,17 @@ use Rattle.network.specs.Card.{Head, head, turned}
 use Rattle.network.specs.Split.{Split, good, bad, unread}
 use Rattle.plan.specs.Check.{Totals, totals}
 use Rattle.plan.specs.Check as Check
+use Rattle.network.specs.Links.{Links}
+use Rattle.network.specs.Card.{network, readCard}
+use Rattle.run.specs.Run.{runPlan, lentAfter}
+use Rattle.run.specs.Demand.{Agreed}
+
+abbrev pub refusedWords : Refused → List ℕ
+refusedWords r = 2 ∷ whoseOf r ∷ numberOf r ∷ placeOf r ∷ []
 
 abbrev pub headWords : Head → List ℕ
 headWords (head n f) = 0 ∷ n ∷ f ∷ 0 ∷ []
-headWords (turned r) = 2 ∷ whoseOf r ∷ numberOf r ∷ placeOf r ∷ []
+headWords (turned r) = refusedWords r
 
 abbrev pub splitWords : Split → List ℕ
 splitWords good = 0 ∷ 0 ∷ 0 ∷ 0 ∷ 0 ∷ []
@@ -19,4 +27,11 @@ splitWords (unread r) = 2 ∷ whoseOf r ∷ numberOf r ∷ placeOf r ∷ 0 ∷ [
 
 abbrev pub planWords : Totals → List ℕ
 planWords (totals blocks carriages) = 0 ∷ blocks ∷ carriages ∷ 0 ∷ []
-planWords (Check.turned r) = 2 ∷ whoseOf r ∷ numberOf r ∷ placeOf r ∷ []
+planWords (Check.turned r) = refusedWords r
+
+-- the words and the lent bytes after a run; `agreed` is demand 3
+pub record RunWords (card plan inputs : List ℕ) (X : ℕ) (table lent after words : List ℕ) : Type 0 where
+  pub answer : words ≡ planWords (runPlan card plan inputs X lent)
+  pub bytes : after ≡ lentAfter card plan inputs X table lent
+  pub agreed : (n f : ℕ) (links : Links) → readCard card ≡ network n f links → (blocks carriages : ℕ) → runPlan card plan inputs X lent ≡ totals blocks carriages
+      → Agreed n X inputs after

@@ -7,12 +7,32 @@ use network::split::SplitAnswer;
 use plan::check;
 use plan::check::Checked;
 use refusal::Refusal;
+use run::call;
+use run::call::Ran;
 ghost use mathlib.Core.Path.{_≡_};
+ghost use Rattle.refusal.specs.Refused.{refusalOf};
 ghost use Rattle.network.specs.Links.{linkedIn};
 ghost use Rattle.network.specs.Card.{readCard, headOf, linksOf};
 ghost use Rattle.network.specs.Split.{splitTest};
-ghost use Rattle.plan.specs.Check.{checkPlan};
-ghost use Rattle.agreement.specs.Words.{headWords, splitWords, planWords};
+ghost use Rattle.plan.specs.Check.{totals, checkPlan};
+ghost use Rattle.agreement.specs.Words.{refusedWords, headWords, splitWords, planWords, RunWords};
+
+// 2, what is at fault, the refusal's number, its place.
+fn refused_words(r: Refusal) -> [u64; 4]
+    ensures { λ w. ⌜ w ≡ refusedWords (refusalOf r) ⌝ }
+{
+    let whose = refusal::whose(r);
+    let number = refusal::number(r);
+    let place = refusal::place(r);
+    [2, whose as u64, number as u64, place as u64]
+}
+
+// 0, the number of blocks, the number of carriages, 0.
+fn total_words(blocks: usize, carriages: usize) -> [u64; 4]
+    ensures { λ w. ⌜ w ≡ planWords (totals blocks carriages) ⌝ }
+{
+    [0, blocks as u64, carriages as u64, 0]
+}
 
 // Reads a card. The answer is 0, n, f, 0; or 2, what is at fault, the refusal's number, its place.
 #[no_mangle]
@@ -26,10 +46,8 @@ pub extern "C" fn agreement_read_card(card: &[u8], answer: &mut [u64; 4])
             *answer = [0, n as u64, f as u64, 0];
         }
         Reading::Refused(r) => {
-            let whose = refusal::whose(r);
-            let number = refusal::number(r);
-            let place = refusal::place(r);
-            *answer = [2, whose as u64, number as u64, place as u64];
+            let words = refused_words(r);
+            *answer = words;
         }
     }
 }
@@ -76,13 +94,40 @@ pub extern "C" fn agreement_check_plan(card: &[u8], plan: &[u8], answer: &mut [u
     let checked = check::check_plan(card, plan);
     match checked {
         Checked::Accepted { blocks, carriages } => {
-            *answer = [0, blocks as u64, carriages as u64, 0];
+            let words = total_words(blocks, carriages);
+            *answer = words;
         }
         Checked::Refused(r) => {
-            let whose = refusal::whose(r);
-            let number = refusal::number(r);
-            let place = refusal::place(r);
-            *answer = [2, whose as u64, number as u64, place as u64];
+            let words = refused_words(r);
+            *answer = words;
+        }
+    }
+}
+
+// The run. The answer is 0, the number of blocks, the number of carriages, 0, with the decided bits
+// in the first n lent bytes, 2 for a faulty server; or 2, what is at fault, the refusal's number,
+// its place, with every lent byte as it was.
+#[no_mangle]
+pub extern "C" fn agreement_run(
+    card: &[u8],
+    plan: &[u8],
+    inputs: &[u8],
+    faulty: u8,
+    table: &[u8],
+    lent: &mut [u8],
+    answer: &mut [u64; 4],
+)
+    ensures { λ r. ⌜ RunWords (now (card .entry)) (now (plan .entry)) (now (inputs .entry)) faulty (now (table .entry)) (now (lent .entry)) (now (lent .exit)) (now (answer .exit)) ⌝ }
+{
+    let ran = call::run(card, plan, inputs, faulty, table, &mut *lent);
+    match ran {
+        Ran::Answered { blocks, carriages } => {
+            let words = total_words(blocks, carriages);
+            *answer = words;
+        }
+        Ran::Refused(r) => {
+            let words = refused_words(r);
+            *answer = words;
         }
     }
 }

@@ -1,5 +1,6 @@
 -- The members of a set, taken out from the lowest on.
 --     members-next    the lowest member, and then the members of what is left
+--     members-then    the same, with the numbers that the code has for them
 --     members-none    the empty set has none
 --     set-..          the loop that takes them out: what is left from here gives the answer of the whole
 --     row-others      a route from each other server: the receiver may be left out of the sources
@@ -86,6 +87,12 @@ members-next s h o =
     list-first 8 0 (has s) (has (minus s (single (lowest s)))) t l
     (λ i g. has-minus s (single (lowest s)) i ∙ ap (λ (x : Bool). has s i && not x) (has-single (lowest s) i ∙ ap (λ (x : Bool). x && eqb (lowest s) i) (lt-ltb (lowest s) 8 l)))
 
+pub members-then : (left x one next : ℕ) → left < 256 → (left ≡ 0 → ⊥) → x ≡ lowest left → one ≡ single x → next ≡ minus left one
+    → members left ≡ x ∷ members next
+members-then left x one next h o a b c =
+    let e : next ≡ minus left (single (lowest left)) = c ∙ ap (minus left) (b ∙ ap single a) in
+    members-next left h o ∙ ap (λ (y : ℕ). y ∷ members (minus left (single (lowest left)))) (sym a) ∙ ap (λ (y : ℕ). x ∷ members y) (sym e)
+
 -- the loop: `left` is the set of those that are left
 
 module _ (step : ℕ → ℕ → ℕ → Progress) (whole : Progress) (left at carriages : ℕ) (so : walk step (members left) at carriages ≡ whole) where
@@ -95,9 +102,7 @@ module _ (step : ℕ → ℕ → ℕ → Progress) (whole : Progress) (left at c
 
   module _ (h : left < 256) (o : left ≡ 0 → ⊥) (x one next : ℕ) (a : x ≡ lowest left) (b : one ≡ single x) (c : next ≡ minus left one) where
     next-is : members left ≡ x ∷ members next
-    next-is =
-        let e : next ≡ minus left (single (lowest left)) = c ∙ ap (minus left) (b ∙ ap single a) in
-        members-next left h o ∙ ap (λ (y : ℕ). y ∷ members (minus left (single (lowest left)))) (sym a) ∙ ap (λ (y : ℕ). x ∷ members y) (sym e)
+    next-is = members-then left x one next h o a b c
 
     pub set-less : length (members next) < length (members left)
     set-less = let e = ap length next-is in omega arith

@@ -111,7 +111,7 @@ module _ (n f : ℕ) (links : Links) (s : List ℕ) where
 
 -- the card reader's answer: n and f with the links apart, or the refusal
 
-with-links : (a : Network) (n f : ℕ) (lent : Links) → headOf a ≡ head n f → a ≡ network n f (linksAfter a lent)
+pub with-links : (a : Network) (n f : ℕ) (lent : Links) → headOf a ≡ head n f → a ≡ network n f (linksAfter a lent)
 with-links (network m g links) n f lent e = let p : m ≡ n = cc in let q : g ≡ f = cc in cc
 with-links (refused r) n f lent e = cc
 

@@ -576,12 +576,13 @@ fn check_blocks(n: u8, f: u8, links: [[bool; 8]; 8], plan: &[u8]) -> Progress
     ensures { λ r. ⌜ progressOf r ≡ checkBlocks n f links (now (plan .entry)) (due n f) 0 0 ⌝ }
 {
     let lowests = sets::lowests();
+    let sizes = sets::sizes();
     let limit = (sets::full(n) as u16) + 1;
     let mut at: usize = 0;
     let mut carriages: usize = 0;
     for i in 0..limit {
         let fault = i as u8;
-        if sets::size(fault) <= f {
+        if sizes[fault as usize] <= f {
             let cuts = check_cuts(n, f, links, plan, at, carriages, fault, &lowests);
             match cuts {
                 Progress::Stopped(ground) => {
@@ -640,11 +641,12 @@ fn blocks_due(n: u8, f: u8) -> usize
     requires { ⌜ n ≤ 8 ⌝ }
     ensures { λ r. ⌜ r ≡ length (due n f) ⌝ }
 {
+    let sizes = sets::sizes();
     let limit = (sets::full(n) as u16) + 1;
     let mut total: usize = 0;
     for i in 0..limit {
         let fault = i as u8;
-        if sets::size(fault) <= f {
+        if sizes[fault as usize] <= f {
             total = total + cuts(n, fault);
         }
     }

@@ -1,10 +1,11 @@
--- Demand 3 on the definitions: a call that is not refused decides as Algorithm BC with the plan's choices, so its sound servers agree on some
--- sound server's input.
+-- Demands 2 and 3 on the definitions: a call that is not refused decides as Algorithm BC with the plan's choices, so its sound servers agree on
+-- some sound server's input.
 --     called       what a call that is not refused has passed
 --     decided-at   the byte of a sound server in the lent buffer
+--     decides      a call that is not refused decides as Algorithm BC
 --     demand       demand 3
 -- Assumes nothing.
-use mathlib.Core.Path.{_≡_, refl, sym, ap, _∙_}
+use mathlib.Core.Path.{_≡_, refl, ap, _∙_}
 use mathlib.Core.Bool.{Bool, true, false, cond, not, _&&_}
 use mathlib.Core.List.{List, [], _∷_, _++_}
 use Prim.Native.Nat.{ℕ, zero, suc, _+_, _^_, _≤_, _<_}
@@ -23,13 +24,15 @@ use Rattle.network.specs.Card.{network, readCard}
 use Rattle.network.proofs.Main.{card-proper}
 use Rattle.plan.specs.Due.{due}
 use Rattle.plan.specs.Check.{Totals, totals, turned, checkPlan}
-use Rattle.rules.specs.Blocks.{decodePlan}
+use Rattle.rules.specs.Blocks.{Block, decodePlan}
+use Rattle.rules.specs.Rules.{Each, InOrder}
 use Rattle.rules.proofs.Main.{decodes}
-use Rattle.run.specs.Steps.{Values, held, valuesFrom, runBlocks}
-use Rattle.run.specs.Bc.{bc}
+use Rattle.run.specs.Steps.{Values, held, valuesFrom, values, runBlocks}
+use Rattle.run.specs.Bc.{bc, Sound}
 use Rattle.run.specs.Choices.{choicesOf}
 use Rattle.run.specs.Run.{areBits, checkCall, onAccepted, runOn, runPlan, decided, written, lentAfter}
-use Rattle.run.specs.Demand.{Demand3}
+use Rattle.run.specs.Demand.{DecidesAsBc, Agreed, Demand3}
+use Rattle.run.proofs.Eight.{value-at, values-long, values-at}
 use Rattle.run.proofs.Planned.{planned-sound, planned-covers}
 use Rattle.run.proofs.Folded.{run-same}
 use Rattle.run.proofs.Someone.{some-sound}
@@ -95,17 +98,6 @@ bit-at [] e i h = absurd (omega arith)
 bit-at (b ∷ bs) e zero h = ltb-true b 2 (and-left (ltb b 2) (areBits bs) e)
 bit-at (b ∷ bs) e (suc i) h = bit-at bs (and-right (ltb b 2) (areBits bs) e) i (omega arith)
 
-value-at : (k lo : ℕ) (g : ℕ → ℕ) (i : ℕ) → i < k → getD (valuesFrom k lo g) i 0 ≡ g (lo + i)
-unfolding valuesFrom
-value-at zero lo g i h = absurd (omega arith)
-value-at (suc k) lo g zero h = let z : lo + 0 ≡ lo = omega arith in sym (ap g z)
-value-at (suc k) lo g (suc i) h = let z : suc lo + i ≡ lo + suc i = omega arith in value-at k (suc lo) g i (omega arith) ∙ ap g z
-
-values-long : (k lo : ℕ) (g : ℕ → ℕ) → length (valuesFrom k lo g) ≡ k
-unfolding valuesFrom
-values-long zero lo g = refl
-values-long (suc k) lo g = ap suc (values-long k (suc lo) g)
-
 -- the byte of a sound server in the lent buffer
 pub decided-at : (n X : ℕ) (v rest : List ℕ) (i : ℕ) → i < n → Out (has X) i → getD (decided n X v ++ rest) i 0 ≡ held v i
 unfolding decided
@@ -121,33 +113,58 @@ small : (n X : ℕ) → within X (full n) ≡ true → X < 2 ^ n
 unfolding within
 small n X e = let a = eqb-true (bitAnd X (full n)) X e in let b = and-le-r X (full n) in let c = full-small n in omega arith
 
+module _ (card plan inputs : List ℕ) (X : ℕ) (table lent : List ℕ) (n f : ℕ) (links : Links) (e : readCard card ≡ network n f links)
+    (blocks carriages : ℕ) (q : runPlan card plan inputs X lent ≡ totals blocks carriages) where
+  passed : Called card plan inputs X lent n f
+  passed = called card plan inputs X lent n f links e blocks carriages q
+
+  few : n ≤ 8
+  few = card-proper card n f links e .most
+
+  abbrev bs : List Block
+  bs = decodePlan n f plan
+
+  order : InOrder n f links (due n f) bs
+  order = decodes card plan n f links e (passed .blocks, passed .carriages, passed .checked) .0
+
+  sound : Each (Sound n f) (choicesOf table 0 bs)
+  sound = planned-sound n f links bs few order table 0
+
+  bits : (i : ℕ) → i < n → held inputs i < 2
+  bits i h = bit-at inputs (passed .bits) i (rw (passed .whole) h)
+
+  -- the byte of a sound server is what Algorithm BC leaves it with
+  pub as-bc : (i : ℕ) → i < n → Out (has X) i → getD (lentAfter card plan inputs X table lent) i 0 ≡ bc n (has X) (choicesOf table 0 bs) (held inputs) i
+  unfolding lentAfter written
+  as-bc i h u =
+      let start : Values = record { v = values (held inputs); t = replicate 8 2 } in
+      let first : (j : ℕ) → j < n → held (values (held inputs)) j ≡ held inputs j = λ j k. values-at (held inputs) j (let m = few in omega arith) in
+      let same = run-same n f links (due n f) bs few order X table 0 sound start (held inputs) first bits i h in
+      rw (q, e) (decided-at n X (runBlocks n X table 0 bs start .v) (drop n lent) i h u ∙ same)
+
+  -- so all are some sound server's input
+  pub agreed : Agreed n X inputs (lentAfter card plan inputs X table lent)
+  agreed =
+      let below = small n X (passed .inside) in
+      let sized = size-count n X few below in
+      let faulty : count n (has X) ≤ f = rw (← sized) (passed .few) in
+      let (s, l, o) = some-sound n f X links bs (card-proper card n f links e .least) few order faulty in
+      let (w, lw, ow, ew) = validity n f (has X) faulty (choicesOf table 0 bs) sound (held inputs) (λ i h u. bits i h) s l o in
+      let (pre, mid, post, cut, cover) = planned-covers n f X links bs few order below (passed .few) table 0 in
+      let alike : (i : ℕ) → i < n → Out (has X) i → bc n (has X) (choicesOf table 0 bs) (held inputs) i ≡ bc n (has X) (choicesOf table 0 bs) (held inputs) s =
+      λ i h u. rw cut (agreement-of validity n f (has X) faulty pre mid post (rw cut at sound) cover (held inputs) (λ j k t. bits j k) i s h u l o) in
+      record {
+        bit = held inputs w;
+        small = bits w lw;
+        server = w;
+        among = lw;
+        sound = ow;
+        input = refl;
+        decided = λ i h u. as-bc i h u ∙ alike i h u ∙ ew;
+      }
+
+pub decides : DecidesAsBc
+decides card plan inputs X table lent n f links e blocks carriages q i h u = as-bc card plan inputs X table lent n f links e blocks carriages q i h u
+
 pub demand : Demand3
-unfolding lentAfter written
-demand card plan inputs X table lent n f links e blocks carriages q =
-    let c = called card plan inputs X lent n f links e blocks carriages q in
-    let proper = card-proper card n f links e in
-    let order = decodes card plan n f links e (c .blocks, c .carriages, c .checked) .0 in
-    let bs = decodePlan n f plan in
-    let below = small n X (c .inside) in
-    let sized = size-count n X (proper .most) below in
-    let few : count n (has X) ≤ f = rw (← sized) (c .few) in
-    let start : Values = record { v = inputs; t = replicate 8 2 } in
-    let sound = planned-sound n f links bs (proper .most) order table 0 in
-    let bits : (i : ℕ) → i < n → held inputs i < 2 = λ i h. bit-at inputs (c .bits) i (rw (c .whole) h) in
-    let same : (i : ℕ) → i < n → held (runBlocks n X table 0 bs start .v) i ≡ bc n (has X) (choicesOf table 0 bs) (held inputs) i =
-    run-same n f links (due n f) bs (proper .most) order X table 0 sound start (held inputs) (λ i h. refl) bits in
-    let (s, l, o) = some-sound n f X links bs (proper .least) (proper .most) order few in
-    let (w, lw, ow, ew) = validity n f (has X) few (choicesOf table 0 bs) sound (held inputs) (λ i h u. bits i h) s l o in
-    let (pre, mid, post, cut, cover) = planned-covers n f X links bs (proper .most) order below (c .few) table 0 in
-    let alike : (i : ℕ) → i < n → Out (has X) i → bc n (has X) (choicesOf table 0 bs) (held inputs) i ≡ bc n (has X) (choicesOf table 0 bs) (held inputs) s =
-    λ i h u. rw cut (agreement-of validity n f (has X) few pre mid post (rw cut at sound) cover (held inputs) (λ j k t. bits j k) i s h u l o) in
-    rw (q, e)
-    (record {
-      bit = held inputs w;
-      small = bits w lw;
-      server = w;
-      among = lw;
-      sound = ow;
-      input = refl;
-      decided = λ i h u. decided-at n X (runBlocks n X table 0 bs start .v) (drop n lent) i h u ∙ same i h ∙ alike i h u ∙ ew;
-    })
+demand card plan inputs X table lent n f links e blocks carriages q = agreed card plan inputs X table lent n f links e blocks carriages q

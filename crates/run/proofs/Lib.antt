@@ -7,7 +7,20 @@
 -- Planned      the choices of the due blocks are as Algorithm BC asks, and those with F = X cover every cut
 -- Folded       the run over the blocks is Algorithm BC with their choices
 -- Someone      a network with an accepted plan has a sound server
--- Decides      demand 3 on the definitions
+-- Eight        the values of the servers as a list of eight
+-- Decides      demands 2 and 3 on the definitions
+-- Carried      what carriages over routes bring
+-- Reported     what reports bring
+-- Opened       what the opening command of a block fixes
+-- Arrivals     what the arrivals of a server come to; values that are 0, 1 or 2
+-- Servers      the loops over the eight servers
+-- Placed       where the routes and reports of a block stand in its bytes
+-- Stepped      the steps of a block that hear, from what the code's parts give
+-- Accepting    what an accepted plan is to the code of a run
+-- Blockwise    the steps of a block and the blocks of a plan, as the code takes them
+-- Lent         the inputs and the lent buffer as bytes
+-- Calls        the grounds of a call and the values that it starts from
+-- Answering    the answer of a run, and demand 3 with it
 -- Main         what a user of the run relies on
 pub mod Paths
 pub mod Validity
@@ -18,5 +31,18 @@ pub mod Same
 pub mod Planned
 pub mod Folded
 pub mod Someone
+pub mod Eight
 pub mod Decides
+pub mod Carried
+pub mod Reported
+pub mod Opened
+pub mod Arrivals
+pub mod Servers
+pub mod Placed
+pub mod Stepped
+pub mod Accepting
+pub mod Blockwise
+pub mod Lent
+pub mod Calls
+pub mod Answering
 pub mod Main

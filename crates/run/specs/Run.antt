@@ -11,7 +11,7 @@ use Rattle.sets.specs.Sets.{has, within, full, size}
 use Rattle.network.specs.Card.{Network, network, refused, readCard}
 use Rattle.plan.specs.Check.{Totals, totals, turned, checkPlan}
 use Rattle.rules.specs.Blocks.{decodePlan}
-use Rattle.run.specs.Steps.{Values, held, valuesFrom, runBlocks}
+use Rattle.run.specs.Steps.{Values, held, valuesFrom, values, runBlocks}
 
 unfoldable pub areBits : List ℕ → Bool
 areBits [] = true
@@ -42,7 +42,7 @@ decided n X v = valuesFrom n 0 (λ (i : ℕ). cond (has X i) 2 (held v i))
 unfoldable pub written : Network → List ℕ → List ℕ → ℕ → List ℕ → List ℕ → List ℕ
 written (refused r) plan inputs X table lent = lent
 written (network n f links) plan inputs X table lent =
-    let start : Values = record { v = inputs; t = replicate 8 2 } in
+    let start : Values = record { v = values (held inputs); t = replicate 8 2 } in
     decided n X (runBlocks n X table 0 (decodePlan n f plan) start .v) ++ drop n lent
 
 abbrev pub afterAnswer : Totals → List ℕ → List ℕ → List ℕ

@@ -15,6 +15,10 @@ use Rattle.plan.specs.Members.{listFrom, members}
 use Rattle.plan.specs.Due.{isPart, due, fan, toOne, pairs, routesDue}
 use Rattle.plan.specs.Route.{path, isFill, filled, serversOf, goesOn, isPath, isRoute}
 use Rattle.plan.specs.Check.{width, isCut, isDue, routeAt, checkGroup, checkGroups, checkReports, checkBlock, checkBlocks, checkEnd, checkOn, checkPlan}
+use Rattle.rules.specs.Blocks.{routesAt, reportsAt, inwardDue, amongDue, outwardDue, decodeBlock, lengthOf, decodeBlocks, decodePlan, reportCarriages, carriagesOf}
+use Rattle.run.specs.Hearing.{hit, message, brought, heard, all, common}
+use Rattle.run.specs.Steps.{valuesFrom, values, step1, gather, compare, step5, step6, runBlock, runBlocks}
+use Rattle.run.specs.Run.{areBits, checkCall, runOn, runPlan, decided, written, lentAfter}
 use Rattle.table.specs.Rows.{Row, Holds, given, stated, table}
 
 sameList : List ℕ → List ℕ → Bool
@@ -44,7 +48,7 @@ allHold-each (first ∷ rows) e row (List·Memᴰ·tail m) =
     allHold-each rows (and-right (sameList (given first) (stated first)) (allHold rows) e) row m
 
 computed : allHold table ≡ true
-unfolding allHold sameList has single union meet minus within full count size firstIn lowest noLinks linkedIn withLink headFits linkFits headAt linkAt endAt stepAt commands readCard someBelow incoming held rest isSplit isBad badAt firstFrom badWithSides badWithFaults firstBad splitTest listFrom members isPart due fan toOne pairs routesDue path isFill filled serversOf goesOn isPath isRoute width isCut isDue routeAt checkGroup checkGroups checkReports checkBlock checkBlocks checkEnd checkOn checkPlan
+unfolding allHold sameList has single union meet minus within full count size firstIn lowest noLinks linkedIn withLink headFits linkFits headAt linkAt endAt stepAt commands readCard someBelow incoming held rest isSplit isBad badAt firstFrom badWithSides badWithFaults firstBad splitTest listFrom members isPart due fan toOne pairs routesDue path isFill filled serversOf goesOn isPath isRoute width isCut isDue routeAt checkGroup checkGroups checkReports checkBlock checkBlocks checkEnd checkOn checkPlan routesAt reportsAt inwardDue amongDue outwardDue decodeBlock lengthOf decodeBlocks decodePlan reportCarriages carriagesOf hit message brought heard all common valuesFrom values step1 gather compare step5 step6 runBlock runBlocks areBits checkCall runOn runPlan decided written lentAfter
 computed = refl
 
 pub table-holds : (row : Row) → List·Memᴰ row table → Holds row

@@ -7,6 +7,9 @@ use Rattle.refusal.specs.Refused.{Refused, card, plan, call}
 use Rattle.network.specs.Card.{Head, head, turned, headOf, readCard}
 use Rattle.network.specs.Split.{Split, good, bad, unread, splitTest}
 use Rattle.plan.specs.Check
+use Rattle.rules.specs.Blocks.{Carriage}
+use Rattle.run.specs.Steps.{gather, compare}
+use Rattle.run.specs.Run.{runPlan, lentAfter}
 
 -- what is at fault (0 card, 1 plan, 2 call), the number, and the place of a card's or a plan's
 abbrev pub refusedValues : Refused → List ℕ
@@ -34,18 +37,27 @@ pub data Row : Type 0 where
   reads : (card : List ℕ) → (values : List ℕ) → Row
   splits : (card : List ℕ) → (values : List ℕ) → Row
   checks : (card plan : List ℕ) → (values : List ℕ) → Row
+  runs : (card plan inputs : List ℕ) → (faulty : ℕ) → (table lent : List ℕ) → (values after : List ℕ) → Row
+  gathers : (faulty : ℕ) → (table : List ℕ) → (carriages : List Carriage) → (receivers : ℕ) → (t : List ℕ) → (values : List ℕ) → Row
+  compares : (faulty : ℕ) → (table : List ℕ) → (carriages : List Carriage) → (quorum : ℕ) → (t : List ℕ) → (values : List ℕ) → Row
 
 -- the call's values by the definitions
 abbrev pub given : Row → List ℕ
 given (reads s values) = headValues (headOf (readCard s))
 given (splits s values) = splitValues (splitTest s)
 given (checks s p values) = totalsValues (Check.checkPlan s p)
+given (runs s p inputs faulty table lent values after) = totalsValues (runPlan s p inputs faulty lent) ++ lentAfter s p inputs faulty table lent
+given (gathers faulty table carriages receivers t values) = gather faulty table 0 carriages receivers t
+given (compares faulty table carriages quorum t values) = compare faulty table 0 carriages quorum t
 
 -- the values that the row states
 abbrev pub stated : Row → List ℕ
 stated (reads s values) = values
 stated (splits s values) = values
 stated (checks s p values) = values
+stated (runs s p inputs faulty table lent values after) = values ++ after
+stated (gathers faulty table carriages receivers t values) = values
+stated (compares faulty table carriages quorum t values) = values
 
 abbrev pub Holds : Row → Type 0
 Holds row = given row ≡ stated row
@@ -100,6 +112,10 @@ P3-blocks =
     ∷ 0x13 ∷ 0x00 ∷ 0x01 ∷ 0xff ∷ 0xff ∷ 0xff ∷ 0xff ∷ 0xff ∷ 0xff
     ∷ 0x13 ∷ 0x02 ∷ 0x01 ∷ 0xff ∷ 0xff ∷ 0xff ∷ 0xff ∷ 0xff ∷ 0xff ∷ []
 
+-- server 2 hears servers 0 and 1, by carriages 0 and 1
+abbrev pub two-carriages : List Carriage
+two-carriages = record { receiver = 2; before = 0 ∷ [] } ∷ record { receiver = 2; before = 1 ∷ [] } ∷ []
+
 abbrev pub table : List Row
 table =
     -- P1: accepted, no bad split
@@ -123,6 +139,24 @@ table =
     ∷ checks P1-card P5-plan (1 ∷ 1 ∷ 1 ∷ [])
     -- P6: refused 7 at place 4, since a 11 route is due
     ∷ checks P1-card P6-plan (0 ∷ 1 ∷ 7 ∷ 4 ∷ [])
+    -- P7: both decide 1
+    ∷ runs P1-card P5-plan (1 ∷ 0 ∷ []) 0 [] (9 ∷ 9 ∷ []) (1 ∷ 1 ∷ 1 ∷ []) (1 ∷ 1 ∷ [])
+    -- later bytes of the lent buffer are untouched
+    ∷ runs P1-card P5-plan (0 ∷ 1 ∷ []) 0 [] (9 ∷ 9 ∷ 9 ∷ []) (1 ∷ 1 ∷ 1 ∷ []) (0 ∷ 0 ∷ 9 ∷ [])
+    -- P8: at f 1 the arrivals 0 and missing, of faulty server 1, come to 2
+    ∷ gathers 2 (0 ∷ []) two-carriages 4 (0 ∷ 0 ∷ 0 ∷ 2 ∷ 2 ∷ 2 ∷ 2 ∷ 2 ∷ []) (0 ∷ 0 ∷ 2 ∷ 2 ∷ 2 ∷ 2 ∷ 2 ∷ 2 ∷ [])
+    -- P9: at f 1 the arrivals 1 and 1 come to 1
+    ∷ gathers 0 [] two-carriages 4 (1 ∷ 1 ∷ 2 ∷ 2 ∷ 2 ∷ 2 ∷ 2 ∷ 2 ∷ []) (1 ∷ 1 ∷ 1 ∷ 2 ∷ 2 ∷ 2 ∷ 2 ∷ 2 ∷ [])
+    -- P10: with an S of one server step 3 keeps t
+    ∷ compares 0 [] [] 1 (1 ∷ 0 ∷ 2 ∷ 2 ∷ 2 ∷ 2 ∷ 2 ∷ 2 ∷ []) (1 ∷ 0 ∷ 2 ∷ 2 ∷ 2 ∷ 2 ∷ 2 ∷ 2 ∷ [])
+    -- a call refused 12, 13 and 14, in this order, changes no byte
+    ∷ runs P1-card P5-plan (1 ∷ []) 1 [] (9 ∷ []) (0 ∷ 2 ∷ 12 ∷ []) (9 ∷ [])
+    ∷ runs P1-card P5-plan (1 ∷ 2 ∷ []) 0 [] (9 ∷ 9 ∷ []) (0 ∷ 2 ∷ 12 ∷ []) (9 ∷ 9 ∷ [])
+    ∷ runs P1-card P5-plan (1 ∷ 0 ∷ []) 1 [] (9 ∷ []) (0 ∷ 2 ∷ 13 ∷ []) (9 ∷ [])
+    ∷ runs P1-card P5-plan (1 ∷ 0 ∷ []) 4 [] (9 ∷ 9 ∷ []) (0 ∷ 2 ∷ 13 ∷ []) (9 ∷ 9 ∷ [])
+    ∷ runs P1-card P5-plan (1 ∷ 0 ∷ []) 0 [] (9 ∷ []) (0 ∷ 2 ∷ 14 ∷ []) (9 ∷ [])
+    -- a refused plan comes before the call, and changes no byte
+    ∷ runs P1-card P6-plan (1 ∷ []) 1 [] (9 ∷ []) (0 ∷ 1 ∷ 7 ∷ 4 ∷ []) (9 ∷ [])
     -- a second 11 route is due at f 1, and 13 is found: 7
     ∷ checks P3-card
     (0x10 ∷ 0x00 ∷ 0x01 ∷ 0x02

@@ -13,58 +13,64 @@ use Rattle.plan.proofs.check.check_blocks.Lts as lts
 use Rattle.plan.proofs.check.check_cuts.Reads as check-cuts-reads
 use Rattle.sets.proofs.full.Reads as full-reads
 use Rattle.sets.proofs.lowests.Reads as lowests-reads
-use Rattle.sets.proofs.size.Reads as size-reads
+use Rattle.sets.proofs.sizes.Reads as sizes-reads
 
 abbrev Inv-loop : tie.InvT-loop
-Inv-loop n f links plan lowests limit at₀ carriages₀ i₀ at carriages i = Going n f links plan limit i at carriages
+Inv-loop n f links plan lowests sizes limit at₀ carriages₀ i₀ at carriages i = Going n f links plan limit i at carriages
 
 abbrev μ-loop : tie.MeasureT-loop
-μ-loop n f links plan lowests limit at₀ carriages₀ i₀ at carriages i = limit - i
+μ-loop n f links plan lowests sizes limit at₀ carriages₀ i₀ at carriages i = limit - i
 
 lowests-requires : tie.Need-lowests-requires Inv-loop μ-loop
 lowests-requires c κs = search needs
+
+sizes-requires : tie.Need-sizes-requires Inv-loop μ-loop
+sizes-requires c κs = search needs
 
 full-requires : tie.Need-full-requires Inv-loop μ-loop
 full-requires c κs = search needs
 
 cast-limit : tie.Need-cast-limit Inv-loop μ-loop
-cast-limit c = let w = full-few _ _ (c .before .before .before .pre .0) (c .full .ensures) in omega arith
+cast-limit c = let w = full-few _ _ (c .before .before .before .before .pre .0) (c .full .ensures) in omega arith
 
 add-limit : tie.Need-add-limit Inv-loop μ-loop
-add-limit c = let w = full-few _ _ (c .before .before .before .pre .0) (c .full .ensures) in omega arith
+add-limit c = let w = full-few _ _ (c .before .before .before .before .pre .0) (c .full .ensures) in omega arith
 
 loop-holds : tie.Need-loop-holds Inv-loop μ-loop
-loop-holds c = going-starts _ _ _ _ _ ((full-few _ _ (c .before .before .before .pre .0) (c .full .ensures)) .1)
+loop-holds c = going-starts _ _ _ _ _ ((full-few _ _ (c .before .before .before .before .pre .0) (c .full .ensures)) .1)
 
 cast-fault : tie.Need-cast-fault Inv-loop μ-loop
-cast-fault c = let w = full-few _ _ (c .before .before .before .before .before .pre .0) (c .before .before .full .ensures) in omega arith
+cast-fault c = let w = full-few _ _ (c .before .before .before .before .before .before .pre .0) (c .before .before .full .ensures) in omega arith
 
-size-requires : tie.Need-size-requires Inv-loop μ-loop
-size-requires c κs = search needs
+cast-if1 : tie.Need-cast-if1 Inv-loop μ-loop
+cast-if1 c = search needs
+
+array-read-if1 : tie.Need-array-read-if1 Inv-loop μ-loop
+array-read-if1 c = search needs
 
 check-cuts-requires : tie.Need-check-cuts-requires Inv-loop μ-loop
-check-cuts-requires c κs = let l = c .before .before .before .before .loop in (c .before .before .before .before .before .before .before .before .pre .0, l .inv .1, l .inv .2, c .before .before .before .before .before .before .before .before .pre .1, c .before .before .before .before .before .before .lowests .ensures)
+check-cuts-requires c κs = let l = c .before .before .before .loop in (c .before .before .before .before .before .before .before .before .pre .0, l .inv .1, l .inv .2, c .before .before .before .before .before .before .before .before .pre .1, c .before .before .before .before .before .before .lowests .ensures)
 
 enum-known-cuts : tie.Need-enum-known-cuts Inv-loop μ-loop
 enum-known-cuts c = search needs
 
 returns : tie.Need-returns Inv-loop μ-loop
-returns c = let l = c .before .before .before .before .before .before .before .before .loop in
-    going-halts _ _ _ _ _ (l .i) (l .at) (l .carriages) (l .inv) (c .before .before .before .before .before .before .before .loop-test .taken) _ (c .before .before .before .before .before .before .size .ensures) (c .before .before .before .before .before .if1 .taken) _ (c .before .before .before .check-cuts .ensures) _ (c .before .cuts .given .1)
+returns c = let l = c .before .before .before .before .before .before .before .loop in
+    going-halts _ _ _ _ _ (l .i) (l .at) (l .carriages) (l .inv) (c .before .before .before .before .before .before .loop-test .taken) _ (c .before .before .before .before .before .before .before .before .before .sizes .ensures .entry _ (omega arith)) (c .before .before .before .before .before .if1 .taken) _ (c .before .before .before .check-cuts .ensures) _ (c .before .cuts .given .1)
 
 enum-known-cuts-2 : tie.Need-enum-known-cuts-2 Inv-loop μ-loop
 enum-known-cuts-2 c = search needs
 
 add-i : tie.Need-add-i Inv-loop μ-loop
-add-i c = let w = full-few _ _ (c .before .before .before .before .before .before .before .pre .0) (c .before .before .before .before .full .ensures) in omega arith
+add-i c = let w = full-few _ _ (c .before .before .before .before .before .before .before .pre .0) (c .before .before .before .full .ensures) in omega arith
 
 loop-less : tie.Need-loop-less Inv-loop μ-loop
 loop-less c = search needs
 
 loop-again : tie.Need-loop-again Inv-loop μ-loop
-loop-again c = let l = c .before .before .before .loop in
-    let h = c .before .before .loop-test .taken in
-    let e = c .before .size .ensures in
+loop-again c = let l = c .before .before .loop in
+    let h = c .before .loop-test .taken in
+    let e = c .before .before .before .before .sizes .ensures .entry (l .i) (omega arith) in
     ⊎-elim
     (λ w. going-moves _ _ _ _ _ (l .i) (l .at) (l .carriages) (l .inv) h _ e (w .0 .taken) _ (w .2 .ensures) (omega arith) _ _ (w .4 .given .1) _ _ (w .6) (w .7))
     (λ w. going-skips _ _ _ _ _ (l .i) (l .at) (l .carriages) (l .inv) h _ e (w .0 .left) _ _ (w .1) (w .2))
@@ -80,12 +86,14 @@ check-blocks-spec =
     Inv-loop
     μ-loop
     lowests-requires
+    sizes-requires
     full-requires
     cast-limit
     add-limit
     loop-holds
     cast-fault
-    size-requires
+    cast-if1
+    array-read-if1
     check-cuts-requires
     enum-known-cuts
     returns

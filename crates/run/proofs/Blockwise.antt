@@ -1,0 +1,213 @@
+-- The steps of a block, one after the other, and the blocks of a plan, as the code takes them.
+--     block-runs      the six steps' results make up the block's
+--     block-numbers   how many carriages the block has
+--     blocks-turn     one block is run, and the rest is left
+-- Assumes nothing.
+use mathlib.Core.Path.{_≡_, refl, sym, ap, _∙_}
+use mathlib.Core.List.{List, [], _∷_, _++_, map, List·Memᴰ·head, List·Memᴰ·tail}
+use Prim.Native.Nat.{ℕ, zero, suc, _+_, _-_, _*_, _≤_, _<_, min}
+use native.Mathlib.Omega.{arith}
+use lib.ListN.{length, take, drop, length-append, length-drop}
+use lib.Seq.{drop-drop}
+use Rattle.sets.specs.Sets.{minus, meet, full, size}
+use Rattle.plan.specs.Members.{members}
+use Rattle.plan.proofs.Cuts.{full-few}
+use Rattle.plan.proofs.Groups.{part-rest}
+use Rattle.rules.specs.Blocks.{Report, Block, carriageOf, reportFrom, reportCarriages, carriagesOf, decodeBlock, lengthOf, decodeBlocks}
+use Rattle.rules.specs.Rules.{Each}
+use Rattle.rules.proofs.Lists.{length-members}
+use Rattle.run.specs.Steps.{Values, step1, gather, compare, step5, step6, runBlock, runBlocks}
+use Rattle.run.specs.Openings.{Small, ReportOf, Readable, Runnable, Opens, Ready, blockAt}
+use Rattle.run.specs.declared.block.Opening.{Opening}
+use Rattle.run.proofs.Placed.{inward-long, among-long, outward-long, reports-are, block-bytes}
+use Rattle.run.proofs.Arrivals.{step1-small, gather-small, compare-small, step5-small, step6-small}
+
+map-long : {A B : Type 0} (g : A → B) (l : List A) → length (map g l) ≡ length l
+map-long g [] = refl
+map-long g (x ∷ xs) = ap suc (map-long g xs)
+
+-- F, A and S of the decoded block
+module _ (o : Opening) (s : List ℕ) (h : Opens (o .n) (o .f) s o) where
+  pub fault-is : blockAt o s .faults ≡ o .fault
+  unfolding decodeBlock
+  fault-is = sym (h .fault)
+
+  pub side-is : blockAt o s .side ≡ o .side
+  unfolding decodeBlock
+  side-is = sym (h .side)
+
+  pub quorum-is : blockAt o s .quorum ≡ o .quorum
+  unfolding decodeBlock
+  quorum-is = sym (h .quorum)
+
+-- the six steps
+
+pub small-same : (l m : List ℕ) → l ≡ m → Small m → Small l
+small-same l m e h = λ i. rw e (h i)
+
+pub block-runs : (o : Opening) (s : List ℕ) → Ready o s → (X : ℕ) (table : List ℕ) (number : ℕ) (v t : List ℕ)
+    → (fl sound kept : ℕ) → fl ≡ full (min (o .n) 8) → sound ≡ minus fl (o .fault) → kept ≡ meet (o .side) (o .quorum)
+    → (v1 t1 v2 t2 v3 t3 v4 t4 v5 t5 v6 t6 : List ℕ)
+    → v1 ≡ v → t1 ≡ step1 (o .side) v t
+    → v2 ≡ v1 → t2 ≡ gather X table number (map carriageOf (blockAt o s .inward)) (minus (o .quorum) (o .side)) t1
+    → v3 ≡ v2 → t3 ≡ compare X table (number + o .inward) (map carriageOf (blockAt o s .among)) (o .quorum) t2
+    → v4 ≡ v3
+    → t4 ≡ gather X table (number + o .inward + o .among) (map carriageOf (blockAt o s .outward)) (minus (minus (full (o .n)) (o .fault)) (o .quorum)) t3
+    → v5 ≡ step5 sound kept t4 v4 → t5 ≡ t4
+    → v6 ≡ step6 X table (number + o .inward + o .among + o .outward) (reportCarriages (blockAt o s .reports)) (o .fault) v5 → t6 ≡ t5
+    → _≡_ {A = Values} (record { v = v6; t = t6 }) (runBlock (o .n) X table number (blockAt o s) (record { v = v; t = t }))
+unfolding runBlock
+block-runs o s ready X table number v t fl sound kept e1 e2 e3 v1 t1 v2 t2 v3 t3 v4 t4 v5 t5 v6 t6 a1 b1 a2 b2 a3 b3 a4 b4 a5 b5 a6 b6 =
+    let h = ready .opens in
+    let few = full-few (o .n) fl (ready .few) e1 in
+    let i = map-long carriageOf (blockAt o s .inward) ∙ inward-long o s ready in
+    let a = map-long carriageOf (blockAt o s .among) ∙ among-long o s ready in
+    let u = map-long carriageOf (blockAt o s .outward) ∙ outward-long o s ready in
+    let x = fault-is o s h in
+    let y = side-is o s h in
+    let z = quorum-is o s h in
+    let w = few .0 in
+    cc
+
+-- the reports of f + 1 servers each
+report-long : (k : ℕ) (ms : List ℕ) → length (reportFrom k ms) ≡ length ms
+report-long k [] = refl
+report-long k (m ∷ ms) = ap suc (report-long k ms)
+
+told-long : (f : ℕ) (rs : List Report) → Each (ReportOf (f + 1)) rs → length (reportCarriages rs) ≡ length rs * (f + 1)
+unfolding reportCarriages
+told-long f [] h = omega arith
+told-long f (r ∷ rs) h =
+    let first = reportFrom (r .receiver) (members (r .reporters)) in
+    let a = length-append first (reportCarriages rs) in
+    let b = report-long (r .receiver) (members (r .reporters)) ∙ length-members (r .reporters) ∙ h r (List·Memᴰ·head refl) .exact in
+    let c = told-long f rs (λ q m. h q (List·Memᴰ·tail m)) in
+    omega arith
+
+pub block-numbers : (o : Opening) (s : List ℕ) → Ready o s
+    → length (carriagesOf (blockAt o s)) ≡ o .inward + o .among + o .outward + o .reports * (o .f + 1)
+unfolding carriagesOf
+block-numbers o s ready =
+    let h = ready .opens in
+    let b = blockAt o s in
+    let inward = map carriageOf (b .inward) in
+    let among = map carriageOf (b .among) in
+    let outward = map carriageOf (b .outward) in
+    let reports = reportCarriages (b .reports) in
+    let i = map-long carriageOf (b .inward) ∙ inward-long o s ready in
+    let a = map-long carriageOf (b .among) ∙ among-long o s ready in
+    let u = map-long carriageOf (b .outward) ∙ outward-long o s ready in
+    let r = told-long (o .f) (b .reports) (ready .readable .reports) ∙ ap (λ (k : ℕ). k * (o .f + 1)) (reports-are o s ready) in
+    let x = length-append (inward ++ among ++ outward) reports in
+    let y = length-append (inward ++ among) outward in
+    let z = length-append inward among in
+    omega arith
+
+-- the blocks of a plan
+
+thrice : (x f : ℕ) → f ≤ 2 → x * (f + 1) ≤ 3 * x
+thrice x zero h = omega arith
+thrice x (suc zero) h = omega arith
+thrice x (suc (suc zero)) h = omega arith
+thrice x (suc (suc (suc f))) h = absurd (omega arith)
+
+-- how far the blocks are run: k of them, `at` bytes and `number` carriages, and the rest gives the answer of the whole
+pub record Along (n f X : ℕ) (table plan : List ℕ) (blocks : ℕ) (start : Values) (k at number : ℕ) (v t : List ℕ) : Type 0 where
+  pub below : k ≤ blocks
+  pub inside : at ≤ length plan
+  pub behind : number ≤ at
+  pub runs : Runnable n f (drop at plan) (blocks - k)
+  pub smallV : Small v
+  pub smallT : Small t
+  pub same : runBlocks n X table number (decodeBlocks n f (drop at plan) (blocks - k)) (record { v = v; t = t }) ≡ runBlocks n X table 0 (decodeBlocks n f plan blocks) start
+
+block-small : (n X : ℕ) (table : List ℕ) (number : ℕ) (b : Block) (v t : List ℕ) → Small v → Small t
+    → Small (runBlock n X table number b (record { v = v; t = t }) .v) × Small (runBlock n X table number b (record { v = v; t = t }) .t)
+unfolding runBlock
+block-small n X table number b v t h k =
+    let t1 = step1-small (b .side) v t h k in
+    let t2 = gather-small X table _ _ _ _ t1 in
+    let t3 = compare-small X table _ _ _ _ t2 in
+    let t4 = gather-small X table _ _ _ _ t3 in
+    (step6-small X table _ _ _ _ (step5-small _ _ _ _ t4 h), t4)
+
+pub blocks-start : (n f X : ℕ) (table plan : List ℕ) (blocks : ℕ) (v t : List ℕ) → Runnable n f plan blocks → Small v → Small t
+    → Along n f X table plan blocks (record { v = v; t = t }) 0 0 0 v t
+blocks-start n f X table plan blocks v t h a b =
+    let z : blocks - 0 ≡ blocks = omega arith in
+    record { below = omega arith; inside = omega arith; behind = omega arith; runs = rw z h; smallV = a; smallT = b; same = rw z refl }
+
+pub blocks-end : (n f X : ℕ) (table plan : List ℕ) (blocks : ℕ) (start : Values) (k at number : ℕ) (v t : List ℕ) → Along n f X table plan blocks start k at number v t
+    → blocks ≤ k → _≡_ {A = Values} (record { v = v; t = t }) (runBlocks n X table 0 (decodeBlocks n f plan blocks) start)
+unfolding runBlocks decodeBlocks
+blocks-end n f X table plan blocks start k at number v t a l =
+    let z : blocks - k ≡ 0 = omega arith in
+    rw z at (a .same)
+
+module _ (n f X : ℕ) (table plan : List ℕ) (blocks : ℕ) (start : Values) (k at number : ℕ) (v t : List ℕ)
+    (along : Along n f X table plan blocks start k at number v t) (more : k < blocks) where
+  left : blocks - k ≡ suc (blocks - (k + 1))
+  left = omega arith
+
+  here : Readable n f (drop at plan) × Runnable n f (drop (lengthOf (decodeBlock n f (drop at plan))) (drop at plan)) (blocks - (k + 1))
+  here = rw left at (along .runs)
+
+  abbrev part : List ℕ
+  part = take (length plan - at) (drop at plan)
+
+  -- the block's opening command is there
+  pub opening-there : 4 ≤ length part
+  unfolding lengthOf
+  opening-there = rw (part-rest plan at) (let h = here .0 .fits in omega arith)
+
+  module _ (few : n ≤ 8) (bound : f ≤ 2) (short : length plan ≤ 1048576) (o : Opening) (opens : Opens n f part o) where
+    pub block-ready : Ready o part
+    block-ready =
+        let readable : Readable n f part = rw (part-rest plan at) (here .0) in
+        record {
+          few = rw (opens .servers) few;
+          bound = rw (opens .bound) bound;
+          short = let c = ap length (part-rest plan at) in let d = length-drop at plan in omega arith;
+          opens = record { servers = refl; bound = refl; fault = opens .fault; side = opens .side; quorum = opens .quorum; inward = opens .inward; among = opens .among; outward = opens .outward; reports = opens .reports };
+          readable = rw (opens .servers, opens .bound) readable;
+        }
+
+    block-is : blockAt o part ≡ decodeBlock n f (drop at plan)
+    block-is = rw (opens .servers, opens .bound, part-rest plan at) refl
+
+    pub bytes-fit : at + (4 + 9 * (o .inward + o .among + o .outward) + 3 * o .reports) ≤ length plan
+    bytes-fit =
+        let a = block-bytes o part block-ready in
+        let b = block-ready .readable .fits in
+        let c = ap length (part-rest plan at) in
+        let d = length-drop at plan in
+        let e = along .inside in
+        omega arith
+
+    pub numbers-behind : number + (o .inward + o .among + o .outward + o .reports * (o .f + 1)) ≤ at + (4 + 9 * (o .inward + o .among + o .outward) + 3 * o .reports)
+    numbers-behind = let a = thrice (o .reports) (o .f) (block-ready .bound) in let b = along .behind in omega arith
+
+    pub blocks-turn : (v′ t′ : List ℕ) → _≡_ {A = Values} (record { v = v′; t = t′ }) (runBlock (o .n) X table number (blockAt o part) (record { v = v; t = t }))
+        → (bytes carriages : ℕ) → bytes ≡ 4 + 9 * (o .inward + o .among + o .outward) + 3 * o .reports
+        → carriages ≡ o .inward + o .among + o .outward + o .reports * (o .f + 1)
+        → Along n f X table plan blocks start (k + 1) (at + bytes) (number + carriages) v′ t′
+    unfolding runBlocks decodeBlocks
+    blocks-turn v′ t′ ran bytes carriages eb ec =
+        let b = decodeBlock n f (drop at plan) in
+        let long : lengthOf b ≡ bytes = sym (ap lengthOf block-is) ∙ block-bytes o part block-ready ∙ sym eb in
+        let many : length (carriagesOf b) ≡ carriages = sym (ap (λ (x : Block). length (carriagesOf x)) block-is) ∙ block-numbers o part block-ready ∙ sym ec in
+        let now : _≡_ {A = Values} (record { v = v′; t = t′ }) (runBlock n X table number b (record { v = v; t = t })) = ran ∙ rw (block-is, opens .servers) refl in
+        let next : drop (lengthOf b) (drop at plan) ≡ drop (at + bytes) plan = rw long (drop-drop bytes at plan) in
+        let p = sym many in
+        let q = sym next in
+        let old : runBlocks n X table number (decodeBlocks n f (drop at plan) (suc (blocks - (k + 1)))) (record { v = v; t = t }) ≡ runBlocks n X table 0 (decodeBlocks n f plan blocks) start = rw left at (along .same) in
+        let small = block-small n X table number b v t (along .smallV) (along .smallT) in
+        record {
+          below = omega arith;
+          inside = rw eb bytes-fit;
+          behind = rw (eb, ec) numbers-behind;
+          runs = rw next at (here .1);
+          smallV = rw (ap (λ (x : Values). x .v) now) (small .0);
+          smallT = rw (ap (λ (x : Values). x .t) now) (small .1);
+          same = (λ i. runBlocks n X table (number + p i) (decodeBlocks n f (q i) (blocks - (k + 1))) (now i)) ∙ old;
+        }
