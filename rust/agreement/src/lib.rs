@@ -1,11 +1,11 @@
-//! Safe functions over the proved library: the card reader, the split test and the
-//! plan check.
+//! Safe functions over the proved library: the card reader, the split test, the plan
+//! check and the run.
 //!
 //! The library is written and proved in Rattle and linked as a static archive; its
 //! contracts, not this crate, say why the answers are right. What is done here is
-//! to hand card and plan over as pointer and length, and to put the numbers that
-//! come back into the types of the crate `reference`, so that both implementations
-//! can be called, and compared, in the same way.
+//! to hand card, plan and whatever else a call takes over as pointer and length, and
+//! to put the numbers that come back into the types of the crate `reference`, so that
+//! both implementations can be called, and compared, in the same way.
 //!
 //! This is the only crate of the workspace with `unsafe` in it, one call a block.
 
@@ -34,6 +34,23 @@ mod library {
             plan_length: usize,
             answer: *mut [u64; 4],
         );
+
+        /// Writes {0, blocks, carriages, 0} and the first n lent bytes, or {2, whose,
+        /// number, place} for a refusal and no lent byte.
+        pub fn agreement_run(
+            card: *const u8,
+            card_length: usize,
+            plan: *const u8,
+            plan_length: usize,
+            inputs: *const u8,
+            inputs_length: usize,
+            faulty: u8,
+            table: *const u8,
+            table_length: usize,
+            lent: *mut u8,
+            lent_length: usize,
+            answer: *mut [u64; 4],
+        );
     }
 }
 
@@ -52,6 +69,10 @@ const OF_CALL: u64 = 2;
 const MOST_BLOCKS: u64 = 1_499;
 /// A plan's bytes at most, and so its carriages: none takes less than a byte.
 const PLAN_LIMIT: u64 = 1_048_576;
+
+/// The refusals of a call, 12 to 14, which have no place.
+const FIRST_OF_CALL: u64 = 12;
+const LAST_OF_CALL: u64 = 14;
 
 /// Lent answers start out as this, which no answer holds: a number that the library
 /// left unwritten would be noticed.
@@ -135,6 +156,56 @@ pub fn check_plan(card: &[u8], plan: &[u8]) -> Result<Totals, Refusal> {
     })
 }
 
+/// Runs every block of `plan` and answers with its number of blocks and of
+/// carriages; `lent` then starts with one byte for each server: the bit that a sound
+/// server decided, 2 for a faulty one.
+///
+/// `inputs` holds each server's input bit, `faulty` is the set of faulty servers, and
+/// `table` says for each carriage what arrives if a faulty server had it in hand: any
+/// bytes will do, as many as there are. Card and plan are checked first. A refused call
+/// changes no byte of `lent`, and bytes of `lent` past the last server are never
+/// touched.
+///
+/// Whatever the faulty servers have arrive, an answered call leaves all sound servers
+/// with one bit, which was the input of a sound server.
+pub fn run(
+    card: &[u8],
+    plan: &[u8],
+    inputs: &[u8],
+    faulty: u8,
+    table: &[u8],
+    lent: &mut [u8],
+) -> Result<Totals, Refusal> {
+    let mut answer = [UNWRITTEN; 4];
+    // SAFETY: each pointer and length are those of one live slice; an empty slice's
+    // pointer is not null either. Only `lent` and `answer` are written; both are lent
+    // for the call alone, and nothing else refers to either of them.
+    unsafe {
+        library::agreement_run(
+            card.as_ptr(),
+            card.len(),
+            plan.as_ptr(),
+            plan.len(),
+            inputs.as_ptr(),
+            inputs.len(),
+            faulty,
+            table.as_ptr(),
+            table.len(),
+            lent.as_mut_ptr(),
+            lent.len(),
+            &mut answer,
+        )
+    };
+    // A plan and a table may be too long to be shown.
+    ran_or_refusal(answer).unwrap_or_else(|| {
+        let length = plan.len();
+        panic!(
+            "the run cannot answer {answer:?} on {length} bytes for {card:02x?}, \
+             inputs {inputs:02x?}, faulty set {faulty}"
+        )
+    })
+}
+
 /// What the card reader's numbers say; `None` if its contract rules them out.
 fn size_or_refusal(answer: [u64; 4]) -> Option<Result<(u8, u8), Refusal>> {
     match answer {
@@ -170,6 +241,17 @@ fn totals_or_refusal(answer: [u64; 4]) -> Option<Result<Totals, Refusal>> {
             Some(Err(refusal(whose, number, place)?))
         }
         _ => None,
+    }
+}
+
+/// What the run's numbers say; `None` if its contract rules them out.
+fn ran_or_refusal(answer: [u64; 4]) -> Option<Result<Totals, Refusal>> {
+    match answer {
+        [REFUSED, OF_CALL, number @ FIRST_OF_CALL..=LAST_OF_CALL, place @ 0] => {
+            Some(Err(refusal(OF_CALL, number, place)?))
+        }
+        // Else it says what the plan check would say.
+        _ => totals_or_refusal(answer),
     }
 }
 
@@ -217,7 +299,12 @@ mod tests {
         assert_eq!(totals_or_refusal([0, 19, 230, 0]), Some(Ok(totals)));
         assert_eq!(totals_or_refusal([2, 0, 6, 87]), Some(Err(of_card)));
         assert_eq!(totals_or_refusal([2, 1, 7, 4]), Some(Err(of_plan)));
-        assert_eq!(refusal(2, 13, 0), Some(Refusal::Call { number: 13 }));
+        let of_call = Refusal::Call { number: 13 };
+        assert_eq!(refusal(2, 13, 0), Some(of_call));
+        assert_eq!(ran_or_refusal([0, 19, 230, 0]), Some(Ok(totals)));
+        assert_eq!(ran_or_refusal([2, 0, 6, 87]), Some(Err(of_card)));
+        assert_eq!(ran_or_refusal([2, 1, 7, 4]), Some(Err(of_plan)));
+        assert_eq!(ran_or_refusal([2, 2, 13, 0]), Some(Err(of_call)));
     }
 
     #[test]
@@ -258,6 +345,19 @@ mod tests {
         ] {
             assert_eq!(totals_or_refusal(answer), None, "{answer:?}");
         }
+        for answer in [
+            [UNWRITTEN; 4],
+            [0, 0, 1, 0],
+            [0, 1, 1, 1],
+            [1, 1, 1, 0],
+            [2, 2, 11, 0],
+            [2, 2, 15, 0],
+            [2, 2, 13, 1],
+            [2, 2, 13, UNWRITTEN],
+            [2, 3, 13, 0],
+        ] {
+            assert_eq!(ran_or_refusal(answer), None, "{answer:?}");
+        }
     }
 
     /// The card of P1: two servers, no faults, one link from 0 to 1.
@@ -278,20 +378,61 @@ mod tests {
         assert!(!linked(&[], 0, 1));
     }
 
+    /// The plan of P5, which fits the card of P1, and the totals of it.
+    const P5: [u8; 14] = [
+        0x10, 0x00, 0x01, 0x01, 0x13, 0x00, 0x01, 0xff, 0xff, 0xff, 0xff, 0xff, 0xff, 0x15,
+    ];
+    const P5_TOTALS: Totals = Totals {
+        blocks: 1,
+        carriages: 1,
+    };
+
+    /// P5 with A 02, where a 11 route is due.
+    fn p6() -> [u8; 14] {
+        let mut p6 = P5;
+        p6[2] = 0x02;
+        p6
+    }
+
     #[test]
     fn small_plans_of_the_paper() {
-        let mut p5 = [0xff; 14];
-        p5[..7].copy_from_slice(&[0x10, 0x00, 0x01, 0x01, 0x13, 0x00, 0x01]);
-        p5[13] = 0x15;
-        let totals = Totals {
-            blocks: 1,
-            carriages: 1,
-        };
-        assert_eq!(check_plan(&P1, &p5), Ok(totals));
-        let mut p6 = p5;
-        p6[2] = 0x02;
+        assert_eq!(check_plan(&P1, &P5), Ok(P5_TOTALS));
         let refused = |number, place| Err(Refusal::Plan { number, place });
-        assert_eq!(check_plan(&P1, &p6), refused(7, 4));
+        assert_eq!(check_plan(&P1, &p6()), refused(7, 4));
         assert_eq!(check_plan(&P1, &[]), refused(2, 0));
+    }
+
+    #[test]
+    fn small_runs_of_the_paper() {
+        let mut lent = [9; 4];
+        assert_eq!(run(&P1, &P5, &[1, 0], 0, &[], &mut lent), Ok(P5_TOTALS));
+        assert_eq!(lent, [1, 1, 9, 9]);
+        assert_eq!(
+            run(&P1, &P5, &[0, 1], 0, &[1; 9], &mut lent[..2]),
+            Ok(P5_TOTALS)
+        );
+        assert_eq!(lent, [0, 0, 9, 9]);
+    }
+
+    #[test]
+    fn a_refused_run_writes_nothing() {
+        let mut lent = [9; 4];
+        let mut refused = |card: &[u8], plan: &[u8], inputs: &[u8], faulty: u8, length: usize| {
+            let answer = run(card, plan, inputs, faulty, &[], &mut lent[..length]);
+            assert_eq!(lent, [9; 4]);
+            answer.expect_err("refused")
+        };
+        let of_card = |number, place| Refusal::Card { number, place };
+        let of_plan = |number, place| Refusal::Plan { number, place };
+        let of_call = |number| Refusal::Call { number };
+        assert_eq!(refused(&[], &[], &[], 1, 0), of_card(2, 0));
+        assert_eq!(refused(&P1, &[], &[], 1, 0), of_plan(2, 0));
+        assert_eq!(refused(&P1, &p6(), &[], 1, 0), of_plan(7, 4));
+        assert_eq!(refused(&P1, &P5, &[1], 1, 0), of_call(12));
+        assert_eq!(refused(&P1, &P5, &[1, 2], 1, 0), of_call(12));
+        assert_eq!(refused(&P1, &P5, &[1, 0], 1, 0), of_call(13));
+        assert_eq!(refused(&P1, &P5, &[1, 0], 4, 0), of_call(13));
+        assert_eq!(refused(&P1, &P5, &[1, 0], 0, 1), of_call(14));
+        assert_eq!(refused(&P1, &P5, &[1, 0], 0, 0), of_call(14));
     }
 }

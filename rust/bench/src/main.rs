@@ -1,5 +1,5 @@
-//! Times of the proved library beside those of the reference, on a few cards and
-//! plans.
+//! Times of the proved library beside those of the reference, on a few cards, plans
+//! and runs.
 //!
 //! ```text
 //! cargo run --release -p bench
@@ -13,6 +13,7 @@
 mod cards;
 mod clock;
 mod plans;
+mod runs;
 
 use clock::{nanoseconds_per_call, ROUNDS};
 use std::hint::black_box;
@@ -25,13 +26,17 @@ fn main() {
     }
     println!("Times in nanoseconds per call, the median of {ROUNDS} rounds by turns.");
     println!("Library and reference are both built for release, in one process, on one input;");
-    println!("a call leaves nothing behind, so no buffer needs clearing between calls.");
+    println!("a call leaves nothing behind, and each run gets a fresh buffer of eight bytes.");
     let cases = cards::cases();
     for case in &cases {
         case.assert_answers();
     }
     let plans = plans::cases();
     for case in &plans {
+        case.assert_answers();
+    }
+    let runs = runs::cases();
+    for case in &runs {
         case.assert_answers();
     }
     println!();
@@ -61,6 +66,16 @@ fn main() {
             case.name,
             || agreement::check_plan(black_box(&case.card), black_box(&case.plan)),
             || reference::check_plan(black_box(&case.card), black_box(&case.plan)),
+        );
+    }
+    println!();
+    // Both check card and plan first, so most of a run is the plan check.
+    heading("run");
+    for case in &runs {
+        row(
+            case.name,
+            || black_box(case).library(),
+            || black_box(case).reference(),
         );
     }
 }

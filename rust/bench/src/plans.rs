@@ -57,7 +57,7 @@ fn accepted(blocks: usize, carriages: usize) -> Result<Totals, Refusal> {
 
 /// The complete network and a random plan for it, always the same one, in which all
 /// commands come up.
-fn planned(n: u8, f: u8) -> (Vec<u8>, Vec<u8>) {
+pub fn planned(n: u8, f: u8) -> (Vec<u8>, Vec<u8>) {
     let card = complete_card(n, f);
     let plan = plan(&mut Rng::new(2), &card).expect("n is over 3f");
     (card, plan)

@@ -1,13 +1,17 @@
-//! The proved library beside the reference: both are asked about the same cards and
-//! plans and must give the same answers.
+//! The proved library beside the reference: both are asked about the same cards, plans
+//! and calls and must give the same answers.
 //!
 //! The proofs say that the library keeps its contracts. What they cannot say is that
 //! the contracts mean what the papers mean, or that compiler, archive and wrapper
 //! hand the answers on unchanged; these comparisons look at that.
 //!
+//! Of a run, besides, more is demanded than that both do the same: all sound servers
+//! decide one bit, and it is the input of one of them. This is looked at in every
+//! answered call, and [`runs::search`] tries hard to make it fail.
+//!
 //! The loops stand here and `tests/` calls them. Run them optimised, since they go
-//! through hundreds of thousands of cards and plans and the reference scans every
-//! split:
+//! through hundreds of thousands of cards, plans and calls and the reference scans
+//! every split:
 //!
 //! ```text
 //! cargo test --release                                  all tests
@@ -18,7 +22,18 @@
 
 pub mod cards;
 pub mod plans;
+pub mod rehearsals;
+pub mod runs;
 mod text;
+
+use generate::{good_card, Rng};
+
+/// A random network without a bad split, and an accepted plan for it.
+fn planned(rng: &mut Rng, n: u8, f: u8) -> (Vec<u8>, Vec<u8>) {
+    let card = good_card(rng, n, f).expect("n is over 3f");
+    let plan = generate::plan(rng, &card).expect("a good network has a plan");
+    (card, plan)
+}
 
 /// `start`, then `bytes` over and over, up to `length` bytes.
 fn repeated(start: &[u8], bytes: &[u8], length: usize) -> Vec<u8> {

@@ -1,5 +1,6 @@
-//! The rest of a call to run: inputs, faulty set and message table.
+//! The rest of a call to run: inputs, faulty set, message table and how much is lent.
 
+use crate::carriages::Carriage;
 use crate::plans::singleton;
 use crate::rng::Rng;
 
@@ -74,6 +75,55 @@ pub fn table(rng: &mut Rng, carriages: usize) -> Vec<u8> {
     }
 }
 
+/// How many ways of aiming [`aimed_table`] has.
+pub const AIMS: usize = 9;
+
+/// A message table that has something in mind, by the number `aim` below [`AIMS`]: one
+/// byte for each of `carriages`, the plan's, against servers with these `inputs`.
+///
+/// Inputs of any length and any bytes are taken; a server that has none counts as 0.
+pub fn aimed_table(rng: &mut Rng, aim: usize, carriages: &[Carriage], inputs: &[u8]) -> Vec<u8> {
+    let input = |server: u8| inputs.get(usize::from(server)).copied().unwrap_or(0) & 1;
+    let (one, other) = (rng.byte(), rng.byte());
+    let blocks = carriages.last().map_or(0, |last| last.block + 1);
+    let turn = rng.below(blocks);
+    let is_in = |set: u8, server: u8| u8::from(set & singleton(server) != 0);
+    let bytes = carriages.iter().map(|carriage| match aim {
+        // The source says what it does not hold.
+        0 => 1 - input(carriage.source),
+        // Everybody hears that it is right, or wrong.
+        1 => input(carriage.receiver),
+        2 => 1 - input(carriage.receiver),
+        // Two faces: some servers hear one bit all the time, the others the other.
+        3 => is_in(one, carriage.receiver),
+        // The same, but turned over from block to block.
+        4 => is_in(one, carriage.receiver) ^ (carriage.block % 2) as u8,
+        // One bit in each block, so that whole blocks pull in one direction.
+        5 => (carriage.block % 2) as u8,
+        // Silence for some servers, a lie for the others.
+        6 if is_in(one, carriage.receiver) == 1 => 2,
+        6 => 1 - input(carriage.source),
+        // Whoever the route comes from decides what is said, and to whom it is said.
+        7 => is_in(one, carriage.receiver) ^ is_in(other, carriage.source),
+        // Silence, which keeps different values apart for long, and bits from some block on.
+        _ if carriage.block < turn => 2,
+        _ => rng.below(2) as u8,
+    });
+    bytes.collect()
+}
+
+/// How many bytes are lent for `n` servers: mostly enough or more, now and then less.
+pub fn lent(rng: &mut Rng, n: u8) -> usize {
+    let n = usize::from(n);
+    match rng.below(8) {
+        0 => rng.below(n),
+        1 => n - 1,
+        2 => n + rng.between(1, 300),
+        3 | 4 => n + rng.between(1, 9),
+        _ => n,
+    }
+}
+
 fn bits(rng: &mut Rng, count: usize) -> Vec<u8> {
     (0..count).map(|_| rng.below(2) as u8).collect()
 }
@@ -135,5 +185,37 @@ mod tests {
         assert!(lengths.iter().any(|&length| length > 30));
         assert!(lengths.iter().any(|&length| (1..30).contains(&length)));
         assert!(table(&mut rng, 0).len() <= 40);
+    }
+
+    #[test]
+    fn aimed_tables_have_a_byte_for_each_carriage() {
+        let mut rng = Rng::new(4);
+        let carriage = |block, source, receiver| Carriage {
+            block,
+            source,
+            receiver,
+            senders: singleton(source),
+        };
+        let carriages = [carriage(0, 0, 1), carriage(0, 1, 0), carriage(1, 1, 0)];
+        for aim in 0..AIMS {
+            let table = aimed_table(&mut rng, aim, &carriages, &[0, 1]);
+            assert_eq!(table.len(), 3);
+            assert!(table.iter().all(|&byte| byte <= 2), "aim {aim}: {table:?}");
+            // Inputs that will be refused are taken as well.
+            assert_eq!(aimed_table(&mut rng, aim, &carriages, &[255]).len(), 3);
+        }
+        assert_eq!(aimed_table(&mut rng, 0, &carriages, &[0, 1]), [1, 0, 0]);
+        assert_eq!(aimed_table(&mut rng, 1, &carriages, &[0, 1]), [1, 0, 0]);
+        assert_eq!(aimed_table(&mut rng, 2, &carriages, &[0, 1]), [0, 1, 1]);
+        assert_eq!(aimed_table(&mut rng, 5, &carriages, &[0, 1]), [0, 0, 1]);
+    }
+
+    #[test]
+    fn lent_buffers_have_lengths_on_both_sides() {
+        let mut rng = Rng::new(5);
+        let lengths: Vec<usize> = (0..500).map(|_| lent(&mut rng, 4)).collect();
+        assert!((0..=8).all(|length| lengths.contains(&length)));
+        assert!(lengths.iter().any(|&length| length > 100));
+        assert!(lengths.iter().filter(|&&length| length < 4).count() < 200);
     }
 }

@@ -8,16 +8,18 @@
 
 mod calls;
 mod cards;
+mod carriages;
 mod damage;
 mod draft;
 mod plans;
 mod rng;
 mod routes;
 
-pub use calls::{faulty, inputs, table};
+pub use calls::{aimed_table, faulty, inputs, lent, table, AIMS};
 pub use cards::{
     all_links, card, card_of, complete_card, good_card, network_card, network_card_with,
 };
+pub use carriages::{carriages, Carriage};
 pub use damage::{damaged_plan, Damage, DAMAGES};
 pub use draft::places;
 pub use plans::{broken_off_plan, plan, plan_like_bytes};

@@ -28,5 +28,5 @@ pub use card::{read_card, Network};
 pub use plan::{check_plan, Totals};
 pub use refusal::Refusal;
 pub use rehearse::rehearse;
-pub use run::run;
+pub use run::{run, values_by_block};
 pub use split::{split_test, Split};

@@ -48,6 +48,30 @@ pub fn run(
     Ok(totals)
 }
 
+/// The value v of every server after each block of a call to [`run`], or the call's
+/// refusal; servers past the last one have 0.
+///
+/// This is for looking into a run. It is part of no answer, and a faulty server's
+/// value is what it would be if that server kept to the steps.
+pub fn values_by_block(
+    card: &[u8],
+    plan: &[u8],
+    inputs: &[u8],
+    faulty: u8,
+    table: &[u8],
+) -> Result<Vec<[u8; 8]>, Refusal> {
+    let network = read_card(card)?;
+    let totals = check_plan_for(&network, plan)?;
+    check_call(&network, inputs, faulty, &[0; MAX_SERVERS])?;
+
+    let mut run = Run::new(&network, plan, inputs, faulty, table);
+    let values = (0..totals.blocks).map(|_| {
+        run.block();
+        run.v
+    });
+    Ok(values.collect())
+}
+
 /// What a call must keep besides its card and plan.
 fn check_call(network: &Network, inputs: &[u8], faulty: u8, out: &[u8]) -> Result<(), Refusal> {
     let n = usize::from(network.n);
@@ -519,6 +543,27 @@ mod tests {
                 assert_eq!(run.plan, [0x15]);
             }
         }
+    }
+
+    #[test]
+    fn the_values_after_the_last_block_are_the_decided_ones() {
+        let card = complete_card(4, 1);
+        for quorum in [Quorum::InsideA, Quorum::All] {
+            let plan = direct_plan(4, 1, quorum);
+            let (inputs, table) = ([1, 0, 0, 1], [0, 1].repeat(200));
+            let mut out = [9; 4];
+            let totals = run(&card, &plan, &inputs, 4, &table, &mut out).unwrap();
+            let values = values_by_block(&card, &plan, &inputs, 4, &table).unwrap();
+            assert_eq!(values.len(), totals.blocks);
+            for server in [0, 1, 3] {
+                assert_eq!(values[totals.blocks - 1][server], out[server]);
+            }
+        }
+        let refused = values_by_block(&card, &[], &[], 0xff, &[]);
+        assert!(matches!(refused, Err(Refusal::Plan { number: 2, .. })));
+        let plan = direct_plan(4, 1, Quorum::All);
+        let refused = values_by_block(&card, &plan, &[0; 4], 3, &[]);
+        assert_eq!(refused, Err(Refusal::Call { number: 13 }));
     }
 
     #[test]

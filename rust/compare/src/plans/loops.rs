@@ -1,10 +1,10 @@
 //! The plans on which library and reference are compared.
 
 use super::tally::{Damages, Tally};
-use crate::repeated;
+use crate::{planned, repeated};
 use generate::{
-    all_links, broken_off_plan, card_of, complete_card, damaged_plan, good_card, network_card,
-    places, Rng, DAMAGES,
+    all_links, broken_off_plan, card_of, complete_card, damaged_plan, network_card, places, Rng,
+    DAMAGES,
 };
 use std::ops::Range;
 
@@ -23,13 +23,6 @@ const P5_CARD: [u8; 7] = [0x01, 0x02, 0x00, 0x02, 0x00, 0x01, 0x03];
 const P5_PLAN: [u8; 14] = [
     0x10, 0x00, 0x01, 0x01, 0x13, 0x00, 0x01, 0xff, 0xff, 0xff, 0xff, 0xff, 0xff, 0x15,
 ];
-
-/// A random network without a bad split, and an accepted plan for it.
-fn planned(rng: &mut Rng, n: u8, f: u8) -> (Vec<u8>, Vec<u8>) {
-    let card = good_card(rng, n, f).expect("n is over 3f");
-    let plan = generate::plan(rng, &card).expect("a good network has a plan");
-    (card, plan)
-}
 
 /// The shortest of some accepted plans for random networks.
 fn short_plan(n: u8, f: u8) -> (Vec<u8>, Vec<u8>) {

@@ -1,0 +1,265 @@
+/*
+ * A campaign of random bytes through the C interface, to be run under a memory checker.
+ *
+ *     campaign CALLS SEED FOLDER..
+ *
+ * It starts from the files of the site folders, changes them at random (a byte, a few bytes cut out,
+ * doubled or put in, two files spliced, cut short or made longer) and calls every function on them. A
+ * change whose answer was not seen before is kept and changed further, so that the campaign works its
+ * way into the depths of card and plan. Each list is handed over in a heap block of exactly its
+ * length, so that a read or write one byte outside is an error to the checker.
+ *
+ * It also holds each answer to what the header promises: no lent byte past n is changed, a refused
+ * call changes none, and the bits of the servers that are not faulty are equal and some such
+ * server's input.
+ */
+#include "agreement.h"
+
+#include <inttypes.h>
+#include <stdio.h>
+#include <stdlib.h>
+#include <string.h>
+
+enum { MOST = 70000, POOL = 2048, LENT_MOST = 16, UNTOUCHED = 0xA5 };
+
+static uint64_t state;
+
+static uint64_t draw(uint64_t below)
+{
+    state ^= state << 13;
+    state ^= state >> 7;
+    state ^= state << 17;
+    return below == 0 ? 0 : state % below;
+}
+
+struct list {
+    uint8_t *bytes;
+    size_t length;
+};
+
+/* A heap block of exactly this length; malloc(0) may be null, which the interface does not take. */
+static struct list list_of(const uint8_t *bytes, size_t length)
+{
+    struct list list = {malloc(length == 0 ? 1 : length), length};
+    if (list.bytes == NULL) {
+        fputs("out of memory\n", stderr);
+        exit(2);
+    }
+    if (length > 0)
+        memcpy(list.bytes, bytes, length);
+    return list;
+}
+
+/* A list of no bytes in a block of none: a pointer just past a block of one byte. */
+static const uint8_t *start_of(struct list list)
+{
+    return list.length == 0 ? list.bytes + 1 : list.bytes;
+}
+
+struct files {
+    struct list card, plan, run_in;
+};
+
+static struct files pool[POOL];
+static size_t pooled;
+
+static struct list read_list(const char *folder, const char *name)
+{
+    static uint8_t bytes[MOST];
+    char path[4096];
+    size_t length = 0;
+    snprintf(path, sizeof path, "%s/%s", folder, name);
+    FILE *stream = fopen(path, "rb");
+    if (stream != NULL) {
+        length = fread(bytes, 1, sizeof bytes, stream);
+        fclose(stream);
+    }
+    return list_of(bytes, length);
+}
+
+static uint8_t any_byte(void)
+{
+    /* mostly bytes that mean something in a card or a plan */
+    static const uint8_t likely[] = {0, 1, 2, 3, 4, 5, 6, 7, 8, 9, 0x10, 0x11, 0x12, 0x13, 0x14, 0x15, 0xFF};
+    return draw(4) == 0 ? (uint8_t)draw(256) : likely[draw(sizeof likely)];
+}
+
+static struct list changed(struct list old, struct list other)
+{
+    static uint8_t bytes[2 * MOST];
+    size_t length = old.length;
+    size_t at, count;
+    memcpy(bytes, old.bytes, old.length);
+    switch (draw(7)) {
+    case 0: /* a byte */
+        if (length > 0)
+            bytes[draw(length)] = any_byte();
+        break;
+    case 1: /* cut out */
+        if (length > 0) {
+            at = draw(length);
+            count = 1 + draw(length - at < 12 ? length - at : 12);
+            memmove(bytes + at, bytes + at + count, length - at - count);
+            length -= count;
+        }
+        break;
+    case 2: /* put in */
+        at = draw(length + 1);
+        count = 1 + draw(12);
+        memmove(bytes + at + count, bytes + at, length - at);
+        for (size_t i = 0; i < count; i++)
+            bytes[at + i] = any_byte();
+        length += count;
+        break;
+    case 3: /* doubled */
+        if (length > 0) {
+            at = draw(length);
+            count = 1 + draw(length - at < 40 ? length - at : 40);
+            memmove(bytes + at + count, bytes + at, length - at);
+            length += count;
+        }
+        break;
+    case 4: /* spliced */
+        at = draw(length + 1);
+        count = draw(other.length + 1);
+        memcpy(bytes + at, other.bytes + count, other.length - count);
+        length = at + other.length - count;
+        break;
+    case 5: /* cut short */
+        length = draw(length + 1);
+        break;
+    default: /* longer */
+        count = draw(20);
+        for (size_t i = 0; i < count; i++)
+            bytes[length + i] = any_byte();
+        length += count;
+        break;
+    }
+    return list_of(bytes, length > MOST ? MOST : length);
+}
+
+static unsigned char seen[1 << 16];
+
+static int is_new(const uint64_t answer[4], unsigned function)
+{
+    uint64_t hash = function;
+    for (int i = 0; i < 4; i++)
+        hash = (hash ^ answer[i]) * UINT64_C(0x9E3779B97F4A7C15) >> 7;
+    hash &= sizeof seen - 1;
+    int fresh = !seen[hash];
+    seen[hash] = 1;
+    return fresh;
+}
+
+static void fail(const char *what)
+{
+    printf("campaign: %s\n", what);
+    exit(1);
+}
+
+static void hold_run(const uint64_t answer[4], const uint8_t *lent, size_t size, const uint8_t *inputs,
+                     uint64_t n, uint8_t faulty)
+{
+    size_t written = answer[0] == AGREEMENT_ANSWERED ? (size_t)n : 0;
+    for (size_t i = written; i < size; i++)
+        if (lent[i] != UNTOUCHED)
+            fail("a byte was written that is not an answer's");
+    if (answer[0] != AGREEMENT_ANSWERED)
+        return;
+    int bit = -1, valid = 0;
+    for (unsigned i = 0; i < n; i++) {
+        if (faulty >> i & 1) {
+            if (lent[i] != 2)
+                fail("a faulty server has a bit");
+            continue;
+        }
+        if (bit >= 0 && lent[i] != bit)
+            fail("two sound servers decided differently");
+        bit = lent[i];
+    }
+    for (unsigned i = 0; i < n; i++)
+        valid |= !(faulty >> i & 1) && inputs[i] == bit;
+    if (!valid)
+        fail("the bit is no sound server's input");
+}
+
+/* Calls every function on the files; says whether an answer was new. */
+static int call_all(struct files files, uint64_t *answered)
+{
+    const uint8_t *card = start_of(files.card), *plan = start_of(files.plan);
+    uint64_t head[4], split[5], checked[4], ran[4];
+    int fresh = 0;
+    agreement_read_card(card, files.card.length, head);
+    fresh |= is_new(head, 0);
+    agreement_linked(card, files.card.length, any_byte(), any_byte());
+    agreement_split_test(card, files.card.length, split);
+    fresh |= is_new(split, 1);
+    agreement_check_plan(card, files.card.length, plan, files.plan.length, checked);
+    fresh |= is_new(checked, 2);
+
+    uint64_t n = head[0] == AGREEMENT_ANSWERED ? head[1] : draw(10);
+    uint8_t faulty = files.run_in.length > 0 ? files.run_in.bytes[0] : 0;
+    size_t after = files.run_in.length > 0 ? files.run_in.length - 1 : 0;
+    size_t count = after < n ? after : (size_t)n;
+    struct list inputs = list_of(files.run_in.bytes + (files.run_in.length > 0), count);
+    struct list table = list_of(files.run_in.bytes + (files.run_in.length > 0) + count, after - count);
+    static uint8_t untouched[LENT_MOST];
+    memset(untouched, UNTOUCHED, sizeof untouched);
+    struct list lent = list_of(untouched, draw(4) == 0 ? draw(LENT_MOST) : AGREEMENT_SERVERS + draw(3));
+    uint8_t *lent_start = lent.length == 0 ? lent.bytes + 1 : lent.bytes;
+    agreement_run(card, files.card.length, plan, files.plan.length, start_of(inputs), inputs.length, faulty,
+                  start_of(table), table.length, lent_start, lent.length, ran);
+    fresh |= is_new(ran, 3);
+    hold_run(ran, lent.bytes, lent.length, inputs.bytes, n, faulty);
+    *answered += ran[0] == AGREEMENT_ANSWERED;
+    free(inputs.bytes);
+    free(table.bytes);
+    free(lent.bytes);
+    return fresh;
+}
+
+int main(int argc, char **argv)
+{
+    if (argc < 4) {
+        fputs("usage: campaign CALLS SEED FOLDER..\n", stderr);
+        return 2;
+    }
+    uint64_t calls = strtoull(argv[1], NULL, 10);
+    state = strtoull(argv[2], NULL, 10) * 2 + 1;
+    uint64_t answered = 0;
+    for (int i = 3; i < argc && pooled < POOL; i++) {
+        struct files files = {read_list(argv[i], "network.card"), read_list(argv[i], "network.plan"),
+                              read_list(argv[i], "run.in")};
+        pool[pooled++] = files;
+        call_all(files, &answered);
+    }
+    for (uint64_t k = 0; k < calls; k++) {
+        /* Every other round keeps the card and plan of a site, so that many runs are answered. */
+        int only_run = draw(2) == 0;
+        struct files old = pool[only_run ? draw((uint64_t)argc - 3) : draw(pooled)], other = pool[draw(pooled)];
+        struct files files = {list_of(old.card.bytes, old.card.length), list_of(old.plan.bytes, old.plan.length),
+                              list_of(old.run_in.bytes, old.run_in.length)};
+        struct list *parts[] = {&files.card, &files.plan, &files.run_in};
+        struct list *others[] = {&other.card, &other.plan, &other.run_in};
+        for (uint64_t changes = 1 + draw(3); changes > 0; changes--) {
+            uint64_t which = only_run ? 2 : draw(3);
+            struct list next = changed(*parts[which], *others[draw(8) == 0 ? draw(3) : which]);
+            free(parts[which]->bytes);
+            *parts[which] = next;
+        }
+        if (call_all(files, &answered) && pooled < POOL) {
+            pool[pooled++] = files;
+        } else {
+            free(files.card.bytes);
+            free(files.plan.bytes);
+            free(files.run_in.bytes);
+        }
+    }
+    printf("campaign: %" PRIu64 " rounds, %" PRIu64 " runs answered, %zu kept\n", calls, answered, pooled);
+    for (size_t i = 0; i < pooled; i++) {
+        free(pool[i].card.bytes);
+        free(pool[i].plan.bytes);
+        free(pool[i].run_in.bytes);
+    }
+    return 0;
+}

@@ -1,0 +1,196 @@
+// Given cases, read from standard input, with the library's answers printed a line each. The
+// answers that they should get are in the file stdout, which was not made by this program.
+//
+// A case is a byte for its kind and then its parts; a part is its length in three bytes, high byte
+// first, and its bytes.
+//     c CARD                                   the words of the card reader and of the split test
+//     p CARD PLAN                              the words of the plan check
+//     r CARD PLAN INPUTS FAULTY TABLE BUFFER   the words of the run, and the lent bytes after it
+//     t CARD PLAN RUN                          what rehearse prints
+use libc::STDIN_FILENO;
+use libc::STDOUT_FILENO;
+ghost use Prim.Native.Nat.{_≤_};
+ghost use lib.ListN.{length};
+
+// A byte as a number below 256, which the sums of part_length ask.
+fn wide(x: u8) -> usize
+    ensures { λ r. ⌜ r ≤ 255 ⌝ }
+{
+    x as usize
+}
+
+// The length of the part that starts here.
+fn part_length(s: &[u8]) -> usize
+    ensures { λ r. ⌜ r ≤ 16777215 ⌝ }
+{
+    if s.len() < 3 {
+        return 0;
+    }
+    let high = wide(s[0]);
+    let middle = wide(s[1]);
+    let low = wide(s[2]);
+    high * 65536 + middle * 256 + low
+}
+
+// The part that starts here, or what is there of it.
+fn part(s: &[u8]) -> &[u8]
+    ensures { λ r. ⌜ length (now r) ≤ length (now (s .entry)) ⌝ }
+{
+    if s.len() < 3 {
+        return &s[0..0];
+    }
+    let n = part_length(s);
+    let left = s.len() - 3;
+    if left < n {
+        return &s[3..];
+    }
+    &s[3..3 + n]
+}
+
+// What follows the part that starts here.
+fn after(s: &[u8]) -> &[u8]
+    ensures { λ r. ⌜ length (now r) ≤ length (now (s .entry)) ⌝ }
+{
+    if s.len() < 3 {
+        return &s[0..0];
+    }
+    let n = part_length(s);
+    let left = s.len() - 3;
+    if left < n {
+        return &s[0..0];
+    }
+    &s[3 + n..]
+}
+
+fn print_word(x: u64) {
+    io::print_decimal(STDOUT_FILENO, x);
+    io::write_all(STDOUT_FILENO, b" ");
+}
+
+fn print_byte(x: u8) {
+    print_word(x as u64);
+}
+
+fn print_words(words: [u64; 4]) {
+    for i in 0..4usize {
+        print_word(words[i]);
+    }
+}
+
+fn end_line() {
+    io::write_all(STDOUT_FILENO, b"\n");
+}
+
+fn card_case(card: &[u8]) {
+    let mut head = [9u64; 4];
+    agreement::agreement_read_card(card, &mut head);
+    print_words(head);
+    let mut split = [9u64; 5];
+    agreement::agreement_split_test(card, &mut split);
+    for i in 0..5usize {
+        print_word(split[i]);
+    }
+    end_line();
+}
+
+fn plan_case(card: &[u8], plan: &[u8]) {
+    let mut answer = [9u64; 4];
+    agreement::agreement_check_plan(card, plan, &mut answer);
+    print_words(answer);
+    end_line();
+}
+
+// The faulty set; 0 where the part is empty.
+fn first_byte(s: &[u8]) -> u8 {
+    if s.len() == 0 {
+        return 0;
+    }
+    s[0]
+}
+
+// How many bytes are lent: as many as the part has, and at most 32.
+fn lent_size(s: &[u8]) -> usize
+    ensures { λ r. ⌜ r ≤ 32 ⌝ }
+{
+    if 32 < s.len() {
+        return 32;
+    }
+    s.len()
+}
+
+fn run_case(card: &[u8], plan: &[u8], inputs: &[u8], faulty: &[u8], table: &[u8], buffer: &[u8]) {
+    let mut lent = [165u8; 32];
+    let set = first_byte(faulty);
+    let size = lent_size(buffer);
+    let mut answer = [9u64; 4];
+    agreement::agreement_run(
+        card,
+        plan,
+        inputs,
+        set,
+        table,
+        &mut lent[..size],
+        &mut answer,
+    );
+    print_words(answer);
+    for i in 0..size {
+        print_byte(lent[i]);
+    }
+    end_line();
+}
+
+fn transcript_case(card: &[u8], plan: &[u8], run_in: &[u8]) {
+    let mut text = [0u8; 1000];
+    let length = transcript::rehearse(card, plan, run_in, &mut text);
+    io::write_all(STDOUT_FILENO, &text[..length]);
+}
+
+// The case of this kind that starts here; answers what follows it.
+fn answer_case(kind: u8, s: &[u8]) -> &[u8]
+    ensures { λ r. ⌜ length (now r) ≤ length (now (s .entry)) ⌝ }
+{
+    let card = part(s);
+    let first = after(s);
+    if kind == 99 {
+        card_case(card);
+        return first;
+    }
+    let plan = part(first);
+    let second = after(first);
+    if kind == 112 {
+        plan_case(card, plan);
+        return second;
+    }
+    let inputs = part(second);
+    let third = after(second);
+    if kind == 116 {
+        transcript_case(card, plan, inputs);
+        return third;
+    }
+    let faulty = part(third);
+    let fourth = after(third);
+    let table = part(fourth);
+    let fifth = after(fourth);
+    run_case(card, plan, inputs, faulty, table, part(fifth));
+    after(fifth)
+}
+
+// Reads the cases into the lent bytes and answers them.
+fn answer_all(buf: &mut [u8]) {
+    let n = io::read_full(STDIN_FILENO, &mut *buf);
+    let mut rest = &buf[..n];
+    while 0 < rest.len() {
+        let next = answer_case(rest[0], &rest[1..]);
+        rest = next;
+    }
+}
+
+// Apart from main, so that no proof writes out all the zeros.
+fn answer_within(buf: &mut [u8; 1048576]) {
+    answer_all(&mut *buf);
+}
+
+fn main() {
+    let mut buf = [0u8; 1048576];
+    answer_within(&mut buf);
+}

@@ -1,0 +1,6 @@
+-- Laying   bytes laid over a buffer, and decimal digits
+-- Lines    the lines, put one word after the other
+-- RunIn    run.in cut into its parts
+pub mod Laying
+pub mod Lines
+pub mod RunIn

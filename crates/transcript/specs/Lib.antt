@@ -1,0 +1,2 @@
+-- Text    what `rehearse` prints, as bytes
+pub mod Text

@@ -1,0 +1,122 @@
+/*
+ * The agreement library: split test, plan check and run.
+ *
+ * The library is written in Rattle and proved: every function below meets the contract that is
+ * written above it, for all arguments. It allocates nothing, keeps no state and calls nothing, so
+ * any number of threads may call it at the same time.
+ *
+ * What a caller hands over
+ *
+ *   - A byte list is a pointer and a length. The pointer is not null, also where the length is 0,
+ *     and `length` bytes can be read there (from `lent`: read and written).
+ *   - `answer` points to 4 or 5 words, as the declaration says, which the call fills.
+ *   - The bytes and words that a call writes (`lent`, `answer`) lie apart from each other and from
+ *     everything that it reads.
+ *   These are all the demands. Bytes may have any values and lists any length.
+ *
+ * What a card, a plan, a faulty set and a message table are is paper 01's matter. In short: servers
+ * are 0 to n-1, n from 2 to 8; f, from 0 to 2, bounds how many are faulty; a set of servers is one
+ * byte, server i standing for 2^i.
+ *
+ * Answers
+ *
+ *   The first word says what the others are.
+ *     AGREEMENT_ANSWERED (0)    the answer; each function says which words
+ *     AGREEMENT_BAD_SPLIT (1)   of the split test only: F, L, C, R
+ *     AGREEMENT_REFUSED (2)     what is at fault, the refusal's number, its place
+ *   What is at fault is AGREEMENT_CARD (0), AGREEMENT_PLAN (1) or AGREEMENT_CALL (2). The place is
+ *   that of the command byte at fault in card or plan; a call's refusal has place 0.
+ *
+ *   number  when
+ *    1      card or plan over its length (1,024 and 1,048,576 bytes), place 0
+ *    2      unknown command, or a command or its operands cut off
+ *    3      bytes follow the end command; the place is that of the first of them
+ *    4      card: the first command is not 01, or 01 again
+ *    5      card: n, f or a server out of range, or a link from a server to itself
+ *    6      card: link given before
+ *    7      plan: the command, or the F and A of a block, is not the one due
+ *    8      plan: S is empty or not within V-F
+ *    9      plan: a route breaks a rule on its own
+ *   10      plan: a route shares a server, the receiver aside, with an earlier one of its f+1
+ *   11      plan: k is not the one due, or N breaks its rule
+ *   12      call: inputs not n bytes of 0 or 1
+ *   13      call: faulty set over f servers, or a server not in V
+ *   14      call: lent buffer under n bytes
+ *   The card's refusal comes before the plan's, and that before the call's 12, 13, 14.
+ */
+#ifndef AGREEMENT_H
+#define AGREEMENT_H
+
+#include <stdbool.h>
+#include <stddef.h>
+#include <stdint.h>
+
+#ifdef __cplusplus
+extern "C" {
+#endif
+
+enum {
+    AGREEMENT_ANSWERED = 0,
+    AGREEMENT_BAD_SPLIT = 1,
+    AGREEMENT_REFUSED = 2
+};
+
+enum {
+    AGREEMENT_CARD = 0,
+    AGREEMENT_PLAN = 1,
+    AGREEMENT_CALL = 2
+};
+
+/* The longest n: a buffer of so many bytes is never refused 14. */
+#define AGREEMENT_SERVERS 8
+
+/*
+ * Reads a network card.
+ * answer: 0, n, f, 0; or 2, AGREEMENT_CARD, number, place.
+ */
+void agreement_read_card(const uint8_t *card, size_t card_length, uint64_t answer[4]);
+
+/*
+ * Whether the card is accepted and its network has a link from u to v. False for a refused card and
+ * for a u or v that is no server.
+ */
+bool agreement_linked(const uint8_t *card, size_t card_length, uint8_t u, uint8_t v);
+
+/*
+ * The split test: can the servers of this network agree, whichever f of them fail?
+ * answer: 0, 0, 0, 0, 0 if they can, which is so exactly if the network meets Theorem 1 of Tseng and
+ * Vaidya; 1, F, L, C, R, the first split that breaks it, in the order of F, then L, then R; or
+ * 2, AGREEMENT_CARD, number, place, 0.
+ */
+void agreement_split_test(const uint8_t *card, size_t card_length, uint64_t answer[5]);
+
+/*
+ * The plan check: does the plan meet the route rules for the card's network?
+ * answer: 0, blocks, carriages, 0 exactly if it does; or 2, AGREEMENT_CARD or AGREEMENT_PLAN, number,
+ * place.
+ */
+void agreement_check_plan(const uint8_t *card, size_t card_length, const uint8_t *plan,
+                          size_t plan_length, uint64_t answer[4]);
+
+/*
+ * The run: Algorithm BC with the plan's choices. `inputs` has each server's bit, `faulty` the servers
+ * that fail, and `table` what arrives by each carriage that a faulty server has spoiled: the byte of
+ * the carriage's number, 0 or 1, any other and a missing one counting as unsure.
+ *
+ * answer: 0, blocks, carriages, 0. Then the first n bytes of `lent` are the decided bits, 2 for a
+ * faulty server, and its later bytes are as they were. The bits of all servers that are not faulty
+ * are equal, and at least one of these servers has that bit as its input, whatever the card, the
+ * plan, the inputs, the faulty set and the table are.
+ * Or answer: 2, what is at fault, number, place. Then every byte of `lent` is as it was.
+ * Card and plan are checked in every call.
+ */
+void agreement_run(const uint8_t *card, size_t card_length, const uint8_t *plan, size_t plan_length,
+                   const uint8_t *inputs, size_t inputs_length, uint8_t faulty,
+                   const uint8_t *table, size_t table_length, uint8_t *lent, size_t lent_length,
+                   uint64_t answer[4]);
+
+#ifdef __cplusplus
+}
+#endif
+
+#endif
