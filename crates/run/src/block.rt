@@ -30,7 +30,7 @@ fn size_in(sizes: &[u8; 256], set: u8) -> usize
 }
 
 // What the opening command at the front fixes.
-pub fn read_opening(n: u8, f: u8, block: &[u8], sizes: &[u8; 256]) -> Opening
+pub(crate) fn read_opening(n: u8, f: u8, block: &[u8], sizes: &[u8; 256]) -> Opening
     requires { ⌜ (n ≤ 8) × (4 ≤ length (now block)) × TableOf size (now sizes) ⌝ }
     ensures { λ r. ⌜ Opens n f (now (block .entry)) r ⌝ }
 {
@@ -59,7 +59,7 @@ pub fn read_opening(n: u8, f: u8, block: &[u8], sizes: &[u8; 256]) -> Opening
 
 impl Opening {
     // How many bytes the block takes.
-    pub fn bytes(self) -> usize
+    pub(crate) fn bytes(self) -> usize
         requires { ⌜ 4 + 9 * (self .inward + self .among + self .outward) + 3 * self .reports < 18446744073709551616 ⌝ }
         ensures { λ r. ⌜ r ≡ 4 + 9 * (self .inward + self .among + self .outward) + 3 * self .reports ⌝ }
     {
@@ -68,7 +68,7 @@ impl Opening {
     }
 
     // How many carriages the block has.
-    pub fn carriages(self) -> usize
+    pub(crate) fn carriages(self) -> usize
         requires { ⌜ (self .inward + self .among + self .outward < 9223372036854775808) × (self .reports < 256) × (self .f ≤ 2) ⌝ }
         ensures { λ r. ⌜ r ≡ self .inward + self .among + self .outward + self .reports * (self .f + 1) ⌝ }
     {
@@ -79,7 +79,7 @@ impl Opening {
 }
 
 // The values after the six steps of the block that starts here.
-pub fn run_block(
+pub(crate) fn run_block(
     before: Values,
     opening: Opening,
     faulty: u8,

@@ -81,7 +81,7 @@ fn joined(before: u8, arrival: u8) -> u8
 }
 
 // What the arrivals over `count` routes come to for each server, from `start` on.
-pub fn over_routes(
+pub(crate) fn over_routes(
     faulty: u8,
     table: &[u8],
     first: usize,
@@ -149,7 +149,7 @@ fn over_report(
 }
 
 // What the reports of `count` commands come to for each server; each command has so many.
-pub fn over_reports(
+pub(crate) fn over_reports(
     faulty: u8,
     table: &[u8],
     first: usize,

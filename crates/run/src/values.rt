@@ -48,7 +48,7 @@ fn gathered(t: [u8; 8], receivers: u8, arrived: [u8; 8]) -> [u8; 8]
 
 impl Values {
     // 1. Each server of A sets t to v.
-    pub fn step1(mut self, side: u8) -> Values
+    pub(crate) fn step1(mut self, side: u8) -> Values
         ensures { λ r. ⌜ (r .v ≡ self .v) × (r .t ≡ step1 side (self .v) (self .t)) ⌝ }
     {
         for i in 0..8u8 {
@@ -60,7 +60,7 @@ impl Values {
     }
 
     // 2. Each receiver of S−A: t is the common value if its arrivals are alike, else 2.
-    pub fn step2(
+    pub(crate) fn step2(
         mut self,
         opening: Opening,
         faulty: u8,
@@ -91,7 +91,7 @@ impl Values {
     }
 
     // 3. All of S at the same time: t is kept if every arrival equals it, else 2.
-    pub fn step3(
+    pub(crate) fn step3(
         mut self,
         opening: Opening,
         faulty: u8,
@@ -126,7 +126,7 @@ impl Values {
     }
 
     // 4. Each receiver of V−F−S as in step 2.
-    pub fn step4(
+    pub(crate) fn step4(
         mut self,
         opening: Opening,
         faulty: u8,
@@ -160,7 +160,7 @@ impl Values {
     }
 
     // 5. Each server of V−F outside A∩S: if t is 0 or 1, v becomes t.
-    pub fn step5(mut self, sound: u8, kept: u8) -> Values
+    pub(crate) fn step5(mut self, sound: u8, kept: u8) -> Values
         ensures { λ r. ⌜ (r .v ≡ step5 sound kept (self .t) (self .v)) × (r .t ≡ self .t) ⌝ }
     {
         let changing = sets::minus(sound, kept);
@@ -176,7 +176,7 @@ impl Values {
 
     // 6. Each k of F: if its arrivals, the values v after step 5, are alike and 0 or 1, v becomes
     // that.
-    pub fn step6(
+    pub(crate) fn step6(
         mut self,
         opening: Opening,
         faulty: u8,
