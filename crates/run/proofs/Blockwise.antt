@@ -7,7 +7,7 @@ use mathlib.Core.Path.{_≡_, refl, sym, ap, _∙_}
 use mathlib.Core.List.{List, [], _∷_, _++_, map, List·Memᴰ·head, List·Memᴰ·tail}
 use Prim.Native.Nat.{ℕ, zero, suc, _+_, _-_, _*_, _≤_, _<_, min}
 use native.Mathlib.Omega.{arith}
-use lib.ListN.{length, take, drop, length-append, length-drop}
+use lib.ListN.{length, take, drop, length-append, length-drop, length-map}
 use lib.Seq.{drop-drop}
 use Rattle.sets.specs.Sets.{minus, meet, full, size}
 use Rattle.plan.specs.Members.{members}
@@ -21,10 +21,6 @@ use Rattle.run.specs.Openings.{Small, ReportOf, Readable, Runnable, Open
 use Rattle.run.specs.declared.block.Opening.{Opening}
 use Rattle.run.proofs.Placed.{inward-long, among-long, outward-long, reports-are, block-bytes}
 use Rattle.run.proofs.Arrivals.{step1-small, gather-small, compare-small, step5-small, step6-small}
-
-map-long : {A B : Type 0} (g : A → B) (l : List A) → length (map g l) ≡ length l
-map-long g [] = refl
-map-long g (x ∷ xs) = ap suc (map-long g xs)
 
 -- F, A and S of the decoded block
 module _ (o : Opening) (s : List ℕ) (h : Opens (o .n) (o .f) s o) where
@@ -60,9 +56,9 @@ unfolding runBlock
 block-runs o s ready X table number v t fl sound kept e1 e2 e3 v1 t1 v2 t2 v3 t3 v4 t4 v5 t5 v6 t6 a1 b1 a2 b2 a3 b3 a4 b4 a5 b5 a6 b6 =
     let h = ready .opens in
     let few = full-few (o .n) fl (ready .few) e1 in
-    let i = map-long carriageOf (blockAt o s .inward) ∙ inward-long o s ready in
-    let a = map-long carriageOf (blockAt o s .among) ∙ among-long o s ready in
-    let u = map-long carriageOf (blockAt o s .outward) ∙ outward-long o s ready in
+    let i = length-map (blockAt o s .inward) carriageOf ∙ inward-long o s ready in
+    let a = length-map (blockAt o s .among) carriageOf ∙ among-long o s ready in
+    let u = length-map (blockAt o s .outward) carriageOf ∙ outward-long o s ready in
     let x = fault-is o s h in
     let y = side-is o s h in
     let z = quorum-is o s h in
@@ -94,9 +90,9 @@ block-numbers o s ready =
     let among = map carriageOf (b .among) in
     let outward = map carriageOf (b .outward) in
     let reports = reportCarriages (b .reports) in
-    let i = map-long carriageOf (b .inward) ∙ inward-long o s ready in
-    let a = map-long carriageOf (b .among) ∙ among-long o s ready in
-    let u = map-long carriageOf (b .outward) ∙ outward-long o s ready in
+    let i = length-map (b .inward) carriageOf ∙ inward-long o s ready in
+    let a = length-map (b .among) carriageOf ∙ among-long o s ready in
+    let u = length-map (b .outward) carriageOf ∙ outward-long o s ready in
     let r = told-long (o .f) (b .reports) (ready .readable .reports) ∙ ap (λ (k : ℕ). k * (o .f + 1)) (reports-are o s ready) in
     let x = length-append (inward ++ among ++ outward) reports in
     let y = length-append (inward ++ among) outward in

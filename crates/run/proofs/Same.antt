@@ -1,5 +1,4 @@
 -- The six steps of a block against an iteration of Algorithm BC with the block's choices.
---     values-at         the values of a function are what it gives, for the eight servers
 --     hit-some          a list with a faulty server, in the words of either side
 --     brought-arrives   what a carriage brings is what arrives on its path
 --     heard-arrives     what a receiver hears is what arrives on the paths to it
@@ -39,21 +38,12 @@ use Rattle.rules.proofs.Lists.{members-in, in-members}
 use Rattle.rules.proofs.Groups.{each-cons, each-append}
 use Rattle.rules.proofs.Fans.{Different, members-different}
 use Rattle.run.specs.Hearing.{hit, message, brought, heard, all, common}
-use Rattle.run.specs.Steps.{held, valuesFrom, values, gather, compare, step1, step5, step6, Values, runBlock}
+use Rattle.run.specs.Steps.{held, gather, compare, step1, step5, step6, Values, runBlock}
 use Rattle.run.specs.Bc.{Path, onWay, some, arrives, allAre, agreed, allBelow, equality, propagate, adopt, stepJ, within, case1, case2, bcBlock, Disjoint, Sound}
 use Rattle.run.specs.Choices.{pathOf, pathsTo, from, choiceOf}
+use Rattle.run.proofs.Eight.{values-at}
 use Rattle.run.proofs.Paths.{allAre-each}
 use Rattle.run.proofs.Deciding.{allBelow-at, allBelow-true}
-
-values-from : (k lo i : ℕ) (f : ℕ → ℕ) → i < k → held (valuesFrom k lo f) i ≡ f (lo + i)
-unfolding valuesFrom
-values-from zero lo i f h = absurd (omega arith)
-values-from (suc k) lo zero f h = let e : lo ≡ lo + 0 = omega arith in ap f e
-values-from (suc k) lo (suc i) f h = let e : suc lo + i ≡ lo + suc i = omega arith in values-from k (suc lo) i f (omega arith) ∙ ap f e
-
-pub values-at : (f : ℕ → ℕ) (i : ℕ) → i < 8 → held (values f) i ≡ f i
-unfolding values
-values-at f i h = let e : 0 + i ≡ i = omega arith in values-from 8 0 i f h ∙ ap f e
 
 pub hit-some : (X : ℕ) (l : List ℕ) → hit X l ≡ some (has X) l
 unfolding hit some
