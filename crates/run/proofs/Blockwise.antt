@@ -1,7 +1,7 @@
 -- The steps of a block, one after the other, and the blocks of a plan, as the code takes them.
 --     block-runs      the six steps' results make up the block's
 --     block-numbers   how many carriages the block has
---     blocks-turn     one block is run, and the rest is left
+--     Along           how far the blocks are run; blocks-start, blocks-end, and blocks-turn for one block more
 -- Assumes nothing.
 use mathlib.Core.Path.{_≡_, refl, sym, ap, _∙_}
 use mathlib.Core.List.{List, [], _∷_, _++_, map, List·Memᴰ·head, List·Memᴰ·tail}
@@ -9,7 +9,7 @@ use Prim.Native.Nat.{ℕ, zero, suc, _+_, _-_, _*_, _≤_, _<_, min}
 use native.Mathlib.Omega.{arith}
 use lib.ListN.{length, take, drop, length-append, length-drop, length-map}
 use lib.Seq.{drop-drop}
-use Rattle.sets.specs.Sets.{minus, meet, full, size}
+use Rattle.sets.specs.Sets.{minus, meet, full}
 use Rattle.plan.specs.Members.{members}
 use Rattle.plan.proofs.Cuts.{full-few}
 use Rattle.plan.proofs.Groups.{part-rest}
@@ -17,10 +17,10 @@ use Rattle.rules.specs.Blocks.{Report, Block, carriageOf, reportFrom, reportCar
 use Rattle.rules.specs.Rules.{Each}
 use Rattle.rules.proofs.Lists.{length-members}
 use Rattle.run.specs.Steps.{Values, step1, gather, compare, step5, step6, runBlock, runBlocks}
-use Rattle.run.specs.Openings.{Small, ReportOf, Readable, Runnable, Opens, Ready, blockAt}
+use Rattle.run.specs.Speaking.{bitsOf, worksOf}
+use Rattle.run.specs.Openings.{ReportOf, Readable, Runnable, Opens, Ready, blockAt}
 use Rattle.run.specs.declared.block.Opening.{Opening}
 use Rattle.run.proofs.Placed.{inward-long, among-long, outward-long, reports-are, block-bytes}
-use Rattle.run.proofs.Arrivals.{step1-small, gather-small, compare-small, step5-small, step6-small}
 
 -- F, A and S of the decoded block
 module _ (o : Opening) (s : List ℕ) (h : Opens (o .n) (o .f) s o) where
@@ -38,22 +38,23 @@ module _ (o : Opening) (s : List ℕ) (h : Opens (o .n) (o .f) s o) where
 
 -- the six steps
 
-pub small-same : (l m : List ℕ) → l ≡ m → Small m → Small l
-small-same l m e h = λ i. rw e (h i)
-
-pub block-runs : (o : Opening) (s : List ℕ) → Ready o s → (X : ℕ) (table : List ℕ) (number : ℕ) (v t : List ℕ)
+-- v, w and t are the servers with v = 1, those that are sure and those of them with t = 1; the number is that of the step just taken
+pub block-runs : (o : Opening) (s : List ℕ) → Ready o s → (X : ℕ) (table : List ℕ) (number : ℕ) (v w t : ℕ)
     → (fl sound kept : ℕ) → fl ≡ full (min (o .n) 8) → sound ≡ minus fl (o .fault) → kept ≡ meet (o .side) (o .quorum)
-    → (v1 t1 v2 t2 v3 t3 v4 t4 v5 t5 v6 t6 : List ℕ)
-    → v1 ≡ v → t1 ≡ step1 (o .side) v t
-    → v2 ≡ v1 → t2 ≡ gather X table number (map carriageOf (blockAt o s .inward)) (minus (o .quorum) (o .side)) t1
-    → v3 ≡ v2 → t3 ≡ compare X table (number + o .inward) (map carriageOf (blockAt o s .among)) (o .quorum) t2
+    → (v1 w1 t1 v2 w2 t2 v3 w3 t3 v4 w4 t4 v5 w5 t5 v6 w6 t6 : ℕ)
+    → v1 ≡ v → worksOf w1 t1 ≡ step1 (o .side) (bitsOf v) (worksOf w t)
+    → v2 ≡ v1
+    → worksOf w2 t2 ≡ gather X table number (map carriageOf (blockAt o s .inward)) (minus (o .quorum) (o .side)) (worksOf w1 t1)
+    → v3 ≡ v2
+    → worksOf w3 t3 ≡ compare X table (number + o .inward) (map carriageOf (blockAt o s .among)) (o .quorum) (worksOf w2 t2)
     → v4 ≡ v3
-    → t4 ≡ gather X table (number + o .inward + o .among) (map carriageOf (blockAt o s .outward)) (minus (minus (full (o .n)) (o .fault)) (o .quorum)) t3
-    → v5 ≡ step5 sound kept t4 v4 → t5 ≡ t4
-    → v6 ≡ step6 X table (number + o .inward + o .among + o .outward) (reportCarriages (blockAt o s .reports)) (o .fault) v5 → t6 ≡ t5
-    → _≡_ {A = Values} (record { v = v6; t = t6 }) (runBlock (o .n) X table number (blockAt o s) (record { v = v; t = t }))
+    → worksOf w4 t4 ≡ gather X table (number + o .inward + o .among) (map carriageOf (blockAt o s .outward)) (minus (minus (full (o .n)) (o .fault)) (o .quorum)) (worksOf w3 t3)
+    → bitsOf v5 ≡ step5 sound kept (worksOf w4 t4) (bitsOf v4) → w5 ≡ w4 → t5 ≡ t4
+    → bitsOf v6 ≡ step6 X table (number + o .inward + o .among + o .outward) (reportCarriages (blockAt o s .reports)) (o .fault) (bitsOf v5)
+    → w6 ≡ w5 → t6 ≡ t5
+    → _≡_ {A = Values} (record { v = bitsOf v6; t = worksOf w6 t6 }) (runBlock (o .n) X table number (blockAt o s) (record { v = bitsOf v; t = worksOf w t }))
 unfolding runBlock
-block-runs o s ready X table number v t fl sound kept e1 e2 e3 v1 t1 v2 t2 v3 t3 v4 t4 v5 t5 v6 t6 a1 b1 a2 b2 a3 b3 a4 b4 a5 b5 a6 b6 =
+block-runs o s ready X table number v w t fl sound kept e1 e2 e3 v1 w1 t1 v2 w2 t2 v3 w3 t3 v4 w4 t4 v5 w5 t5 v6 w6 t6 a1 b1 a2 b2 a3 b3 a4 b4 a5 b5 c5 a6 b6 c6 =
     let h = ready .opens in
     let few = full-few (o .n) fl (ready .few) e1 in
     let i = length-map (blockAt o s .inward) carriageOf ∙ inward-long o s ready in
@@ -62,7 +63,7 @@ block-runs o s ready X table number v t fl sound kept e1 e2 e3 v1 t1 v2 t2 v3 t3
     let x = fault-is o s h in
     let y = side-is o s h in
     let z = quorum-is o s h in
-    let w = few .0 in
+    let full-is = few .0 in
     cc
 
 -- the reports of f + 1 servers each
@@ -113,25 +114,13 @@ pub record Along (n f X : ℕ) (table plan : List ℕ) (blocks : ℕ) (start : V
   pub inside : at ≤ length plan
   pub behind : number ≤ at
   pub runs : Runnable n f (drop at plan) (blocks - k)
-  pub smallV : Small v
-  pub smallT : Small t
   pub same : runBlocks n X table number (decodeBlocks n f (drop at plan) (blocks - k)) (record { v = v; t = t }) ≡ runBlocks n X table 0 (decodeBlocks n f plan blocks) start
 
-block-small : (n X : ℕ) (table : List ℕ) (number : ℕ) (b : Block) (v t : List ℕ) → Small v → Small t
-    → Small (runBlock n X table number b (record { v = v; t = t }) .v) × Small (runBlock n X table number b (record { v = v; t = t }) .t)
-unfolding runBlock
-block-small n X table number b v t h k =
-    let t1 = step1-small (b .side) v t h k in
-    let t2 = gather-small X table _ _ _ _ t1 in
-    let t3 = compare-small X table _ _ _ _ t2 in
-    let t4 = gather-small X table _ _ _ _ t3 in
-    (step6-small X table _ _ _ _ (step5-small _ _ _ _ t4 h), t4)
-
-pub blocks-start : (n f X : ℕ) (table plan : List ℕ) (blocks : ℕ) (v t : List ℕ) → Runnable n f plan blocks → Small v → Small t
+pub blocks-start : (n f X : ℕ) (table plan : List ℕ) (blocks : ℕ) (v t : List ℕ) → Runnable n f plan blocks
     → Along n f X table plan blocks (record { v = v; t = t }) 0 0 0 v t
-blocks-start n f X table plan blocks v t h a b =
+blocks-start n f X table plan blocks v t h =
     let z : blocks - 0 ≡ blocks = omega arith in
-    record { below = omega arith; inside = omega arith; behind = omega arith; runs = rw z h; smallV = a; smallT = b; same = rw z refl }
+    record { below = omega arith; inside = omega arith; behind = omega arith; runs = rw z h; same = rw z refl }
 
 pub blocks-end : (n f X : ℕ) (table plan : List ℕ) (blocks : ℕ) (start : Values) (k at number : ℕ) (v t : List ℕ) → Along n f X table plan blocks start k at number v t
     → blocks ≤ k → _≡_ {A = Values} (record { v = v; t = t }) (runBlocks n X table 0 (decodeBlocks n f plan blocks) start)
@@ -197,13 +186,10 @@ module _ (n f X : ℕ) (table plan : List ℕ) (blocks : ℕ) (start : Values) (
         let p = sym many in
         let q = sym next in
         let old : runBlocks n X table number (decodeBlocks n f (drop at plan) (suc (blocks - (k + 1)))) (record { v = v; t = t }) ≡ runBlocks n X table 0 (decodeBlocks n f plan blocks) start = rw left at (along .same) in
-        let small = block-small n X table number b v t (along .smallV) (along .smallT) in
         record {
           below = omega arith;
           inside = rw eb bytes-fit;
           behind = rw (eb, ec) numbers-behind;
           runs = rw next at (here .1);
-          smallV = rw (ap (λ (x : Values). x .v) now) (small .0);
-          smallT = rw (ap (λ (x : Values). x .t) now) (small .1);
           same = (λ i. runBlocks n X table (number + p i) (decodeBlocks n f (q i) (blocks - (k + 1))) (now i)) ∙ old;
         }

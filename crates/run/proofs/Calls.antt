@@ -1,20 +1,18 @@
--- The answer to a call: its own grounds in their order, and the values that the run starts from.
+-- The answer to a call: its own grounds in their order, and the lent buffer where there is none.
 --     refuse-length, refuse-bits     ground 12
 --     refuse-outside, refuse-many    ground 13
 --     refuse-room                    ground 14
 --     passes                         none of them
---     first-small                    the values at first are 0, 1 or 2
 --     written-is                     the lent buffer is what the run leaves
 -- Assumes nothing.
 use mathlib.Core.Path.{_≡_, refl, sym, ap, _∙_}
 use mathlib.Core.Bool.{Bool, true, false}
-use mathlib.Core.List.{List, [], _∷_, _++_}
-use Prim.Native.Nat.{ℕ, zero, suc, _≤_, _<_, min}
-use native.Mathlib.Omega.{arith}
-use lib.Dec.{eqb, ltb}
+use mathlib.Core.List.{List, _++_}
+use Prim.Native.Nat.{ℕ, _≤_, _<_, min}
+use lib.Dec.{eqb}
 use lib.ListN.{length, drop, replicate}
-use borrow.Author.Tests.{eq-eqb, ne-eqb, lt-ltb, le-ltb, le-leb, lt-leb, ltb-true}
-use Rattle.facts.proofs.Bools.{cases, and-left, and-right}
+use borrow.Author.Tests.{eq-eqb, ne-eqb, lt-ltb, le-ltb, le-leb, lt-leb}
+use Rattle.facts.proofs.Bools.{cases}
 use Rattle.refusal.specs.Refused.{call}
 use Rattle.sets.specs.Sets.{within, full, size}
 use Rattle.plan.specs.Check.{Totals, turned}
@@ -22,8 +20,6 @@ use Rattle.plan.proofs.Cuts.{full-few}
 use Rattle.rules.specs.Blocks.{Block}
 use Rattle.run.specs.Steps.{Values, held, values, runBlocks}
 use Rattle.run.specs.Run.{areBits, checkCall, decided}
-use Rattle.run.specs.Openings.{Small}
-use Rattle.run.proofs.Arrivals.{values-small}
 
 module _ (n f : ℕ) (inputs : List ℕ) (X : ℕ) (lent : List ℕ) (answer : Totals) where
   pub refuse-length : (length inputs ≡ n → ⊥) → turned (call 12) ≡ checkCall n f inputs X lent answer
@@ -58,27 +54,6 @@ module _ (n f : ℕ) (inputs : List ℕ) (X : ℕ) (lent : List ℕ) (answer : T
       pub passes : k ≤ f → n ≤ length lent → answer ≡ checkCall n f inputs X lent answer
       unfolding checkCall
       passes l r = let i = inside in let z = long in let q = le-leb (size X) f (rw (← ek) l) in let p = le-ltb (length lent) n r in cc
-
--- the values at first
-
-cons-small : (x : ℕ) (l : List ℕ) → x < 3 → Small l → Small (x ∷ l)
-cons-small x l h k zero = h
-cons-small x l h k (suc i) = k i
-
-bits-small : (l : List ℕ) → areBits l ≡ true → Small l
-unfolding areBits
-bits-small [] e = λ i. omega arith
-bits-small (b ∷ bs) e =
-    let first = ltb-true b 2 (and-left (ltb b 2) (areBits bs) e) in
-    cons-small b bs (omega arith) (bits-small bs (and-right (ltb b 2) (areBits bs) e))
-
-unsure-small : (k : ℕ) → Small (replicate k 2)
-unsure-small zero i = omega arith
-unsure-small (suc k) zero = omega arith
-unsure-small (suc k) (suc i) = unsure-small k i
-
-pub first-small : (inputs : List ℕ) (b : Bool) → b ≡ areBits inputs → b ≡ true → (v t : List ℕ) → v ≡ values (held inputs) → t ≡ replicate 8 2 → Small v × Small t
-first-small inputs b e l v t ev et = (rw ev (values-small (held inputs) (bits-small inputs (sym e ∙ l))), rw et (unsure-small 8))
 
 -- the lent buffer is what the run leaves
 pub written-is : (n X : ℕ) (table : List ℕ) (bs : List Block) (inputs lent v t v′ t′ out : List ℕ)

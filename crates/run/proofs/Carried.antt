@@ -1,33 +1,33 @@
 -- What carriages over routes bring, on plain lists. The loops go over the bytes of a route's operand and over the routes of a block.
 --     message-..    the byte of the message table
---     join-..       one arrival more
---     place-..      the loop that finds the receiver in the operand
---     hit-..        the loop over the servers before the receiver
+--     place-..      the first two servers of a route are there
+--     hit-..        the servers before the receiver
 --     brought-..    what the route's carriage brings
 --     arrivals-..   the loop over the routes
 --     route-..      the next route
 -- Assumes nothing.
 use mathlib.Core.Path.{_≡_, refl, sym, ap, _∙_}
-use mathlib.Core.Bool.{Bool, true, false}
-use mathlib.Core.List.{List, [], _∷_, map, List·Memᴰ·head, List·Memᴰ·tail}
+use mathlib.Core.Bool.{Bool, cond, _||_}
+use mathlib.Core.List.{List, [], _∷_, _++_, map, List·Memᴰ·head, List·Memᴰ·tail}
 use Prim.Native.Nat.{ℕ, zero, suc, _+_, _-_, _*_, _≤_, _<_}
+use native.Mathlib.Numerals.{add-one}
 use native.Mathlib.Omega.{arith}
-use lib.ListN.{length, getD, set, take, drop, length-drop, length-set, List·getD-eq-default}
-use lib.Seq.{take-take, getD-take, getD-set-same, getD-set-other}
+use lib.ListN.{length, getD, take, drop, length-drop, List·getD-eq-default}
+use lib.Seq.{take-take, getD-take}
 use lib.Dec.{eqb}
-use borrow.Author.Tests.{lt-ltb, le-ltb, eq-eqb, ne-eqb, eqb-true, eqb-false}
+use borrow.Author.Tests.{lt-ltb, le-ltb}
 use Rattle.facts.proofs.Bools.{cases}
 use Rattle.sets.specs.Sets.{has}
 use Rattle.plan.specs.Route.{path}
 use Rattle.plan.specs.Check.{routeAt}
-use Rattle.plan.proofs.Paths.{part-next, part-over}
 use Rattle.plan.proofs.Groups.{part-rest}
 use Rattle.rules.specs.Blocks.{Carriage, carriageOf, routesAt}
 use Rattle.rules.specs.Rules.{Each}
-use Rattle.run.specs.Hearing.{hit, message, brought, heard, join, come}
-use Rattle.run.specs.Steps.{held, values}
+use Rattle.run.specs.Hearing.{hit, message, brought, heard}
+use Rattle.run.specs.Speaking.{Adds, Speaks}
+use Rattle.run.specs.declared.carriage.Against.{Against}
 use Rattle.run.specs.Openings.{Servers}
-use Rattle.run.proofs.Eight.{values-ext, values-held}
+use Rattle.run.proofs.Speaking.{adds-none, adds-then, adds-speaks}
 
 -- a byte that is there does not go by the default
 same-byte : (l : List ℕ) (k d e : ℕ) → k < length l → getD l k d ≡ getD l k e
@@ -49,20 +49,6 @@ module _ (table : List ℕ) (k : ℕ) where
   unfolding message
   message-none h = let e = List·getD-eq-default table 2 h in sym (rw e refl)
 
--- one arrival more
-module _ (x y : ℕ) where
-  pub join-first : x ≡ 3 → y ≡ join x y
-  unfolding join
-  join-first e = sym (simp (eq-eqb _ _ e))
-
-  pub join-alike : (x ≡ 3 → ⊥) → x ≡ y → x ≡ join x y
-  unfolding join
-  join-alike o e = sym (simp (ne-eqb _ _ o, eq-eqb _ _ e))
-
-  pub join-unlike : (x ≡ 3 → ⊥) → (x ≡ y → ⊥) → 2 ≡ join x y
-  unfolding join
-  join-unlike o e = sym (simp (ne-eqb _ _ o, ne-eqb _ _ e))
-
 -- the place of the receiver: the first two servers are there, so the loop starts after them
 pub place-starts : (l : List ℕ) → 2 ≤ length (path l) → 2 + length (path (drop 2 l)) ≡ length (path l)
 unfolding path
@@ -76,20 +62,20 @@ place-starts (a ∷ b ∷ l) h =
     (λ g. absurd (let z : length (path (a ∷ b ∷ l)) ≡ 1 = simp (e, g) in omega arith))
     λ g. let z : length (path (a ∷ b ∷ l)) ≡ suc (suc (length (path l))) = simp (e, g) in omega arith
 
--- some server before a place is faulty
-module _ (X : ℕ) (s : List ℕ) (end : ℕ) (fits : end ≤ length s) (i : ℕ) where
-  module _ (h : i < end) (b : Bool) (p : b ≡ has X (getD s i 0)) where
-    pub hit-here : b ≡ true → true ≡ hit X (drop i (take end s))
-    unfolding hit
-    hit-here t = sym (rw (part-next end s fits i h) (simp (sym p ∙ t)))
+-- some server before a place is faulty: one server more
+pub hit-more : (X : ℕ) (s : List ℕ) (k : ℕ) → k < length s → (hit X (take k s) || has X (getD s k 0)) ≡ hit X (take (k + 1) s)
+unfolding hit
+hit-more X [] k h = absurd (omega arith)
+hit-more X (x ∷ xs) zero h = cases (has X x) (λ e. rw e refl) (λ e. rw e refl)
+hit-more X (x ∷ xs) (suc k) h =
+    let ih = hit-more X xs k (omega arith) in
+    let a = add-one (suc k) in
+    let b = add-one k in
+    cases (has X x) (λ e. rw (a, e) refl) (λ e. rw (a, e) (rw b at ih))
 
-    pub hit-later : b ≡ false → hit X (drop (i + 1) (take end s)) ≡ hit X (drop i (take end s))
-    unfolding hit
-    hit-later t = sym (rw (part-next end s fits i h) (simp (sym p ∙ t)))
-
-  pub hit-none : end ≤ i → false ≡ hit X (drop i (take end s))
-  unfolding hit
-  hit-none h = sym (rw (part-over end s fits i h) refl)
+pub hit-first : (X : ℕ) (s : List ℕ) → 0 < length s → has X (getD s 0 0) ≡ hit X (take 1 s)
+unfolding hit
+hit-first X s h = hit-more X s 0 h
 
 -- the path is the part of the operand before the fill
 path-part : (l : List ℕ) → path l ≡ take (length (path l)) l
@@ -113,63 +99,50 @@ module _ (s : List ℕ) (end : ℕ) (w : end + 1 ≡ length (path (take 8 s))) (
   pub receiver-is : carriageOf (path (take 8 s)) .receiver ≡ getD s end 0
   receiver-is = ap (λ (x : ℕ). getD (path (take 8 s)) x 0) last-is ∙ server-is end (omega arith)
 
-  module _ (X : ℕ) (table : List ℕ) (k : ℕ) (sent : List ℕ) (b : Bool) (p : b ≡ hit X (take end s)) where
-    pub brought-hit : b ≡ true → (r : ℕ) → r ≡ message table k → r ≡ brought X table k (held sent) (carriageOf (path (take 8 s)))
-    unfolding brought
-    brought-hit t r q = q ∙ sym (rw before-is (simp (sym p ∙ t)))
-
-    pub brought-clear : b ≡ false → 1 ≤ end → getD sent (getD s 0 0) 0 ≡ brought X table k (held sent) (carriageOf (path (take 8 s)))
-    unfolding brought
-    brought-clear t one = let z = getD-take end s 0 0 (omega arith) in sym (rw before-is (simp (sym p ∙ t, z)))
+  pub brought-is : (X : ℕ) (table : List ℕ) (k : ℕ) (source : ℕ → ℕ) (b : Bool) → b ≡ hit X (take end s) → 1 ≤ end
+      → (r : ℕ) → r ≡ cond b (message table k) (source (getD s 0 0)) → r ≡ brought X table k source (carriageOf (path (take 8 s)))
+  unfolding brought
+  brought-is X table k source b p one r q =
+      let z = getD-take end s 0 0 (omega arith) in
+      q ∙ sym (rw (before-is, z, ← p) refl)
 
 -- the operand of the next route: the block from the byte after the command on
 abbrev pub operand : List ℕ → ℕ → List ℕ
 operand s at = take (length s - (at + 1)) (drop (at + 1) s)
 
--- one carriage more: the arrivals of its receiver come to one more, those of every other server stay
-module _ (X : ℕ) (table : List ℕ) (number : ℕ) (source : ℕ → ℕ) (c : Carriage) (cs : List Carriage) (arrived : List ℕ) (eight : length arrived ≡ 8)
-    (r : ℕ) (is : c .receiver ≡ r) (few : r < 8) (arrival next : ℕ) (p : arrival ≡ brought X table number source c) (q : next ≡ join (getD arrived r 0) arrival) where
-  same : (i : ℕ) → r ≡ i → getD (set arrived r next) i 0 ≡ join (getD arrived i 0) (brought X table number source c)
-  same i e = rw (← e) (getD-set-same arrived r next 0 (omega arith) ∙ q ∙ ap (join (getD arrived r 0)) p)
+-- one carriage more: its receiver hears what it brings, then the rest; every other server hears the rest alone
+heard-next : (X : ℕ) (table : List ℕ) (number : ℕ) (source : ℕ → ℕ) (c : Carriage) (cs : List Carriage) (r arrival : ℕ)
+    → c .receiver ≡ r → arrival ≡ brought X table number source c
+    → (i : ℕ) → heard X table number source (c ∷ cs) i ≡ cond (eqb r i) (arrival ∷ []) [] ++ heard X table (suc number) source cs i
+unfolding heard
+heard-next X table number source c cs r arrival is p i =
+    let later = heard X table (suc number) source cs i in
+    let h : heard X table number source (c ∷ cs) i ≡ cond (eqb (c .receiver) i) (brought X table number source c ∷ []) [] ++ later =
+    cases (eqb (c .receiver) i) (λ e. rw e refl) (λ e. rw e refl) in
+    h ∙ (λ j. cond (eqb (is j) i) (sym p j ∷ []) [] ++ later)
 
-  hears : (i : ℕ) → come (getD (set arrived r next) i 0) (heard X table (suc number) source cs i) ≡ come (getD arrived i 0) (heard X table number source (c ∷ cs) i)
-  unfolding come heard
-  hears i =
-      cases (eqb (c .receiver) i)
-      (λ e. rw e (ap (λ (x : ℕ). come x (heard X table (suc number) source cs i)) (same i (sym is ∙ eqb-true _ _ e))))
-      (λ e. rw e (ap (λ (x : ℕ). come x (heard X table (suc number) source cs i)) (getD-set-other arrived r i next 0 (λ z. eqb-false _ _ e (is ∙ sym z)))))
-
-  pub arrivals-more : values (λ (i : ℕ). come (getD (set arrived r next) i 0) (heard X table (suc number) source cs i)) ≡ values (λ (i : ℕ). come (getD arrived i 0) (heard X table number source (c ∷ cs) i))
-  arrivals-more = values-ext _ _ (λ i l. hears i)
-
--- what the arrivals over m routes from a place on come to
-abbrev pub comeOver : ℕ → List ℕ → ℕ → List ℕ → List ℕ → List ℕ → ℕ → ℕ → List ℕ
-comeOver X table first sent start block at m =
-    values (λ (i : ℕ). come (getD start i 0) (heard X table first (held sent) (map carriageOf (routesAt block at m)) i))
-
--- k routes are behind: what is left gives what the whole gives
-pub record Arriving (X : ℕ) (table : List ℕ) (first : ℕ) (sent block : List ℕ) (count : ℕ) (whole arrived : List ℕ) (at k : ℕ) : Type 0 where
+-- k routes are behind: with what those left bring, what is held so far becomes what the whole speaks against
+pub record Arriving (X : ℕ) (table : List ℕ) (first : ℕ) (source : ℕ → ℕ) (block : List ℕ) (count : ℕ) (whole : ℕ → List ℕ) (against : Against) (at k : ℕ) : Type 0 where
   pub most : k ≤ count
-  pub eight : length arrived ≡ 8
   pub fits : at + 9 * (count - k) ≤ length block
   pub servers : Each Servers (routesAt block at (count - k))
-  pub same : comeOver X table (first + k) sent arrived block at (count - k) ≡ whole
+  pub same : (b : Against) → Adds against (heard X table (first + k) source (map carriageOf (routesAt block at (count - k)))) b → Speaks whole b
 
-pub arrivals-start : (X : ℕ) (table : List ℕ) (first : ℕ) (sent block : List ℕ) (count : ℕ) (start : List ℕ) (place : ℕ)
-    → length start ≡ 8 → place + 9 * count ≤ length block → Each Servers (routesAt block place count)
-    → Arriving X table first sent block count (comeOver X table first sent start block place count) start place 0
-arrivals-start X table first sent block count start place eight fits servers =
+pub arrivals-start : (X : ℕ) (table : List ℕ) (first : ℕ) (source : ℕ → ℕ) (block : List ℕ) (count place : ℕ)
+    → place + 9 * count ≤ length block → Each Servers (routesAt block place count)
+    → Arriving X table first source block count (heard X table first source (map carriageOf (routesAt block place count))) (record { zero = 0; one = 0 }) place 0
+arrivals-start X table first source block count place fits servers =
     let z : count - 0 ≡ count = omega arith in
     let y : first + 0 ≡ first = omega arith in
-    record { most = omega arith; eight = eight; fits = omega arith; servers = rw z servers; same = rw (z, y) refl }
+    record { most = omega arith; fits = omega arith; servers = rw z servers; same = rw (z, y) (λ b h. adds-speaks _ b h) }
 
-module _ {X : ℕ} {table : List ℕ} {first : ℕ} {sent block : List ℕ} {count : ℕ} {whole arrived : List ℕ} {at k : ℕ} (so : Arriving X table first sent block count whole arrived at k) where
-  pub arrivals-end : count ≤ k → arrived ≡ whole
-  unfolding come heard routesAt
+module _ {X : ℕ} {table : List ℕ} {first : ℕ} {source : ℕ → ℕ} {block : List ℕ} {count : ℕ} {whole : ℕ → List ℕ} {against : Against} {at k : ℕ} (so : Arriving X table first source block count whole against at k) where
+  pub arrivals-end : count ≤ k → Speaks whole against
+  unfolding heard routesAt
   arrivals-end h =
       let z : count - k ≡ 0 = omega arith in
       let e = rw z at (so .same) in
-      sym (values-held arrived (so .eight)) ∙ e
+      e against (adds-none against _ (λ i. refl))
 
   -- there is a next route
   module _ (h : k < count) where
@@ -199,17 +172,17 @@ module _ {X : ℕ} {table : List ℕ} {first : ℕ} {sent block : List ℕ} {cou
       pub route-receiver : getD (operand block at) end 0 < 8
       route-receiver = server-below end (omega arith)
 
-      pub arrivals-go : (arrival next : ℕ) → arrival ≡ brought X table (first + k) (held sent) (carriageOf (path (take 8 (operand block at))))
-          → next ≡ join (getD arrived (getD (operand block at) end 0) 0) arrival
-          → Arriving X table first sent block count whole (set arrived (getD (operand block at) end 0) next) (at + 9) (k + 1)
+      pub arrivals-go : (arrival : ℕ) (next : Against) → arrival ≡ brought X table (first + k) source (carriageOf (path (take 8 (operand block at))))
+          → Adds against (λ (i : ℕ). cond (eqb (getD (operand block at) end 0) i) (arrival ∷ []) []) next
+          → Arriving X table first source block count whole next (at + 9) (k + 1)
       arrivals-go arrival next p q =
           let o = operand block at in
           let y : first + (k + 1) ≡ suc (first + k) = omega arith in
-          let e = arrivals-more X table (first + k) (held sent) (carriageOf (path (take 8 o))) (map carriageOf (routesAt block (at + 9) (count - (k + 1)))) arrived (so .eight) (getD o end 0) (receiver-is o end w few) route-receiver arrival next p q in
+          let later = map carriageOf (routesAt block (at + 9) (count - (k + 1))) in
+          let e = rw routes-next at (so .same) in
           record {
             most = omega arith;
-            eight = simp length-set (so .eight);
             fits = let f = so .fits in omega arith;
             servers = servers-later;
-            same = rw y (e ∙ (rw routes-next at (so .same)));
+            same = rw y (λ b a. e b (adds-then against next b _ _ _ q a (heard-next X table (first + k) source (carriageOf (path (take 8 o))) later (getD o end 0) arrival (receiver-is o end w few) p)));
           }

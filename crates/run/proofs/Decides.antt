@@ -7,13 +7,13 @@
 -- Assumes nothing.
 use mathlib.Core.Path.{_≡_, refl, ap, _∙_}
 use mathlib.Core.Bool.{Bool, true, false, cond, not, _&&_}
-use mathlib.Core.List.{List, [], _∷_, _++_}
-use Prim.Native.Nat.{ℕ, zero, suc, _+_, _^_, _≤_, _<_}
+use mathlib.Core.List.{List, _++_}
+use Prim.Native.Nat.{ℕ, _+_, _^_, _≤_, _<_}
 use native.Mathlib.Omega.{arith}
 use lib.Bits.{bitAnd, and-le-r}
 use lib.Dec.{eqb, ltb, leb}
 use lib.ListN.{length, getD, drop, replicate, List·getD-append}
-use borrow.Author.Tests.{eqb-true, ltb-true, ltb-false, leb-true}
+use borrow.Author.Tests.{eqb-true, ltb-false, leb-true}
 use Rattle.facts.proofs.Bools.{and-left, and-right}
 use Rattle.refusal.specs.Refused.{Refused, call}
 use Rattle.sets.specs.Sets.{Out, has, within, full, size, count}
@@ -33,6 +33,7 @@ use Rattle.run.specs.Choices.{choicesOf}
 use Rattle.run.specs.Run.{areBits, checkCall, onAccepted, runOn, runPlan, decided, written, lentAfter}
 use Rattle.run.specs.Demand.{DecidesAsBc, Agreed, Demand3}
 use Rattle.run.proofs.Eight.{value-at, values-long, values-at}
+use Rattle.run.proofs.Lent.{bits-at}
 use Rattle.run.proofs.Planned.{planned-sound, planned-covers}
 use Rattle.run.proofs.Folded.{run-same}
 use Rattle.run.proofs.Someone.{some-sound}
@@ -91,13 +92,6 @@ called card plan inputs X lent n f links e k c q =
       room = ltb-false (length lent) n l;
     }
 
--- an input is a bit
-bit-at : (l : List ℕ) → areBits l ≡ true → (i : ℕ) → i < length l → getD l i 0 < 2
-unfolding areBits
-bit-at [] e i h = absurd (omega arith)
-bit-at (b ∷ bs) e zero h = ltb-true b 2 (and-left (ltb b 2) (areBits bs) e)
-bit-at (b ∷ bs) e (suc i) h = bit-at bs (and-right (ltb b 2) (areBits bs) e) i (omega arith)
-
 -- the byte of a sound server in the lent buffer
 pub decided-at : (n X : ℕ) (v rest : List ℕ) (i : ℕ) → i < n → Out (has X) i → getD (decided n X v ++ rest) i 0 ≡ held v i
 unfolding decided
@@ -131,7 +125,7 @@ module _ (card plan inputs : List ℕ) (X : ℕ) (table lent : List ℕ) (n f : 
   sound = planned-sound n f links bs few order table 0
 
   bits : (i : ℕ) → i < n → held inputs i < 2
-  bits i h = bit-at inputs (passed .bits) i (rw (passed .whole) h)
+  bits i h = bits-at inputs (passed .bits) i
 
   -- the byte of a sound server is what Algorithm BC leaves it with
   pub as-bc : (i : ℕ) → i < n → Out (has X) i → getD (lentAfter card plan inputs X table lent) i 0 ≡ bc n (has X) (choicesOf table 0 bs) (held inputs) i

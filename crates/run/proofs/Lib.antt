@@ -9,17 +9,17 @@
 -- Someone      a network with an accepted plan has a sound server
 -- Eight        the values of the servers as a list of eight
 -- Decides      demands 2 and 3 on the definitions
+-- Speaking     what arrivals speak against, as lists and as sets
+-- Arrivals     what arrives at a server is 0, 1 or 2, and what it settles
 -- Carried      what carriages over routes bring
 -- Reported     what reports bring
 -- Opened       what the opening command of a block fixes
--- Arrivals     what the arrivals of a server come to; values that are 0, 1 or 2
--- Servers      the loops over the eight servers
 -- Placed       where the routes and reports of a block stand in its bytes
--- Stepped      the steps of a block that hear, from what the code's parts give
+-- Stepped      the steps of a block on sets of servers
 -- Accepting    what an accepted plan is to the code of a run
 -- Blockwise    the steps of a block and the blocks of a plan, as the code takes them
 -- Lent         the inputs and the lent buffer as bytes
--- Calls        the grounds of a call and the values that it starts from
+-- Calls        the grounds of a call and the lent buffer where there is none
 -- Answering    the answer of a run, and demand 3 with it
 -- Main         what a user of the run relies on
 pub mod Paths
@@ -33,11 +33,11 @@ pub mod Folded
 pub mod Someone
 pub mod Eight
 pub mod Decides
+pub mod Speaking
+pub mod Arrivals
 pub mod Carried
 pub mod Reported
 pub mod Opened
-pub mod Arrivals
-pub mod Servers
 pub mod Placed
 pub mod Stepped
 pub mod Accepting

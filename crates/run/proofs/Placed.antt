@@ -7,12 +7,12 @@
 -- Assumes nothing.
 use mathlib.Core.Path.{_≡_, refl, sym, ap, _∙_}
 use mathlib.Core.List.{List}
-use Prim.Native.Nat.{ℕ, _+_, _*_, _≤_, _<_}
+use Prim.Native.Nat.{ℕ, _+_, _*_, _≤_}
 use native.Mathlib.Omega.{arith}
 use lib.ListN.{length, getD}
 use Rattle.sets.specs.Sets.{size}
 use Rattle.sets.proofs.Counts.{size-le}
-use Rattle.rules.specs.Blocks.{Report, routesAt, reportsAt, inwardDue, amongDue, outwardDue, decodeBlock, lengthOf}
+use Rattle.rules.specs.Blocks.{routesAt, reportsAt, inwardDue, amongDue, outwardDue, decodeBlock, lengthOf}
 use Rattle.rules.specs.Rules.{Each}
 use Rattle.rules.proofs.Groups.{routes-length}
 use Rattle.rules.proofs.Reports.{reports-length}

@@ -1,18 +1,16 @@
 -- What reports bring.
---     Arriving, arriving-..    the loop over the reporters of one report: what is left of them gives the answer of the whole
---     come-append              what arrivals come to, in two parts
+--     Telling, telling-..      the loop over the reporters of one command: with what is left of them, what is held becomes that of the whole
 --     heard-mine               what the receiver of a report hears: the report, then the rest
 --     heard-other              what any other server hears: the rest alone
---     Gathering, gathering-..  the loop over the reports of a block: what is left of them gives the answer of the whole
+--     Gathering, gathering-..  the loop over the reports of a block: with what is left of them, what is held becomes that of the whole
 -- Assumes nothing.
-use mathlib.Core.Path.{_≡_, refl, sym, ap, _∙_}
+use mathlib.Core.Path.{_≡_, refl, ap}
 use mathlib.Core.Bool.{Bool, true, false, cond}
 use mathlib.Core.List.{List, [], _∷_, _++_, List·Memᴰ·head, List·Memᴰ·tail}
 use Prim.Native.Nat.{ℕ, suc, _+_, _-_, _*_, _≤_, _<_}
 use native.Mathlib.Numerals.{add-one}
 use native.Mathlib.Omega.{arith}
-use lib.ListN.{length, getD, set, replicate, getD-replicate, length-set}
-use lib.Seq.{getD-set-same, getD-set-other}
+use lib.ListN.{length, getD}
 use lib.Dec.{eqb}
 use borrow.Author.Tests.{eq-eqb, ne-eqb, eqb-true, eqb-false}
 use Rattle.facts.proofs.Bools.{cases}
@@ -22,54 +20,71 @@ use Rattle.sets.proofs.Counts.{size-le}
 use Rattle.sets.proofs.LowestMember.{lowest-in}
 use Rattle.plan.specs.Members.{members}
 use Rattle.plan.proofs.Lowests.{members-none, members-then}
-use Rattle.rules.specs.Blocks.{Report, Carriage, reportFrom, reportsAt, reportCarriages}
+use Rattle.rules.specs.Blocks.{Carriage, reportFrom, reportsAt, reportCarriages}
 use Rattle.rules.specs.Rules.{Each}
 use Rattle.rules.proofs.Lists.{length-members}
-use Rattle.run.specs.Hearing.{hit, message, brought, heard, join, come, reported}
+use Rattle.run.specs.Hearing.{hit, message, brought, heard, reported}
+use Rattle.run.specs.Speaking.{Adds, Speaks}
 use Rattle.run.specs.Openings.{ReportOf}
-use Rattle.run.specs.Steps.{values}
-use Rattle.run.proofs.Eight.{values-ext, values-is}
+use Rattle.run.specs.declared.carriage.Against.{Against}
+use Rattle.run.proofs.Speaking.{adds-none, adds-then, adds-speaks}
 
 -- the reports of one command
 
-module _ (X : ℕ) (table : List ℕ) (first : ℕ) (h : ℕ → ℕ) (start N : ℕ) where
-  abbrev pub Arriving : (arrived number left : ℕ) → Type 0
-  Arriving arrived number left =
-      (left < 256) × (number + length (members left) ≤ first + 8) × (come arrived (reported X table number h (members left)) ≡ come start (reported X table first h (members N)))
+nothing : (b : Bool) → cond {A = List ℕ} b [] [] ≡ []
+nothing true = refl
+nothing false = refl
 
-  pub arriving-starts : N < 256 → Arriving start first N
-  arriving-starts l = let e = length-members N in let b = size-le N in (l, omega arith, refl)
+-- the first, then the others
+in-turn : (b : Bool) (x : ℕ) (xs : List ℕ) → cond b (x ∷ xs) [] ≡ cond b (x ∷ []) [] ++ cond b xs []
+in-turn true x xs = refl
+in-turn false x xs = refl
 
-  module _ (arrived number left : ℕ) (i : Arriving arrived number left) where
-    pub arriving-done : left ≡ 0 → arrived ≡ come start (reported X table first h (members N))
-    unfolding come reported
-    arriving-done z = rw (z, members-none) at (i .2)
+module _ (X : ℕ) (table : List ℕ) (first : ℕ) (h : ℕ → ℕ) (before : Against) (r N : ℕ) where
+  -- the receiver hears the reports of these servers, any other server hears nothing
+  abbrev pub Told : (number left : ℕ) → ℕ → List ℕ
+  Told number left i = cond (eqb r i) (reported X table number h (members left)) []
+
+  pub record Telling (against : Against) (number left : ℕ) : Type 0 where
+    pub byte : left < 256
+    pub few : number + length (members left) ≤ first + 8
+    pub same : (b : Against) → Adds against (Told number left) b → Adds before (Told first N) b
+
+  pub telling-starts : N < 256 → Telling before first N
+  telling-starts l = let e = length-members N in let b = size-le N in record { byte = l; few = omega arith; same = λ b a. a }
+
+  module _ (against : Against) (number left : ℕ) (t : Telling against number left) where
+    pub telling-done : left ≡ 0 → Adds before (Told first N) against
+    unfolding reported
+    telling-done z = t .same against (adds-none against _ (λ i. rw (z, members-none) (nothing (eqb r i))))
 
     module _ (o : left ≡ 0 → ⊥) (m : ℕ) (a : m ≡ lowest left) where
-      pub arriving-eight : m < 8
-      arriving-eight = let l = has-below 8 left (lowest left) (i .0) (lowest-in left (i .0) o) in omega arith
+      pub telling-eight : m < 8
+      telling-eight = let l = has-below 8 left (lowest left) (t .byte) (lowest-in left (t .byte) o) in omega arith
 
-      module _ (one next : ℕ) (b : one ≡ single m) (c : next ≡ minus left one) where
-        then : members left ≡ m ∷ members next
-        then = members-then left m one next (i .0) o a b c
+      module _ (one others : ℕ) (b : one ≡ single m) (c : others ≡ minus left one) where
+        then : members left ≡ m ∷ members others
+        then = members-then left m one others (t .byte) o a b c
 
-        pub arriving-less : length (members next) < length (members left)
-        arriving-less = let e = ap length then in omega arith
+        pub telling-less : length (members others) < length (members left)
+        telling-less = let e = ap length then in omega arith
 
-        module _ (x : ℕ) (q : x ≡ cond (has X m) (message table number) (h m)) (y : ℕ) (j : y ≡ join arrived x) where
-          now : come (join arrived x) (reported X table (number + 1) h (members next)) ≡ come start (reported X table first h (members N))
-          unfolding come reported
-          now = let e = add-one number in rw (e, q) (rw then at (i .2))
+        module _ (x : ℕ) (q : x ≡ cond (has X m) (message table number) (h m)) (next : Against) (p : Adds against (λ (i : ℕ). cond (eqb r i) (x ∷ []) []) next) where
+          told-turn : (i : ℕ) → Told number left i ≡ cond (eqb r i) (x ∷ []) [] ++ Told (number + 1) others i
+          unfolding reported
+          told-turn i = let e = add-one number in rw (then, e, q) (in-turn (eqb r i) _ _)
 
-          pub arriving-goes : Arriving y (number + 1) next
-          arriving-goes = let l = arriving-less in let s : next < 256 = rw c (minus-small 8 left one (i .0)) in (s, omega (arith, i .1), rw j now)
+          pub telling-goes : Telling next (number + 1) others
+          telling-goes =
+              let l = telling-less in
+              let f = t .few in
+              record {
+                byte = rw c (minus-small 8 left one (t .byte));
+                few = omega arith;
+                same = λ b a. t .same b (adds-then against next b _ _ _ p a told-turn);
+              }
 
 -- the reports of a list of commands
-
-pub come-append : (x : ℕ) (l m : List ℕ) → come x (l ++ m) ≡ come (come x l) m
-unfolding come
-come-append x [] m = refl
-come-append x (y ∷ l) m = come-append (join x y) l m
 
 module _ (X : ℕ) (table : List ℕ) (h : ℕ → ℕ) (r : ℕ) (rest : List Carriage) where
   brought-one : (k m : ℕ) → brought X table k h (record { receiver = r; before = m ∷ [] }) ≡ cond (has X m) (message table k) (h m)
@@ -97,84 +112,63 @@ module _ (X : ℕ) (table : List ℕ) (h : ℕ → ℕ) (r : ℕ) (rest : List C
       let e = ne-eqb r i o in
       rw e ih
 
--- one command: its receiver joins the report to what came before; to any other server nothing comes
-module _ (X : ℕ) (table : List ℕ) (h : ℕ → ℕ) (r N : ℕ) (rest : List Carriage) (arrived : List ℕ) (k y : ℕ) (l : r < length arrived)
-    (q : y ≡ come (getD arrived r 0) (reported X table k h (members N))) where
-  mine : come (getD (set arrived r y) r 0) (heard X table (k + size N) h rest r) ≡ come (getD arrived r 0) (heard X table k h (reportFrom r (members N) ++ rest) r)
-  mine =
-      let a = heard-mine X table h r rest k (members N) in
+  -- one command: its receiver hears the report, then the rest
+  command-turn : (k N : ℕ) (i : ℕ) → heard X table k h (reportFrom r (members N) ++ rest) i ≡ cond (eqb r i) (reported X table k h (members N)) [] ++ heard X table (k + size N) h rest i
+  command-turn k N i =
       let b = length-members N in
-      let c = getD-set-same arrived r y 0 l in
-      let d = come-append (getD arrived r 0) (reported X table k h (members N)) (heard X table (k + length (members N)) h rest r) in
-      cc
-
-  other : (i : ℕ) → (r ≡ i → ⊥) → come (getD (set arrived r y) i 0) (heard X table (k + size N) h rest i) ≡ come (getD arrived i 0) (heard X table k h (reportFrom r (members N) ++ rest) i)
-  other i o =
-      let a = heard-other X table h r rest k (members N) i o in
-      let b = length-members N in
-      let c = getD-set-other arrived r i y 0 (λ z. o (sym z)) in
-      cc
-
-  turn : (i : ℕ) → come (getD (set arrived r y) i 0) (heard X table (k + size N) h rest i) ≡ come (getD arrived i 0) (heard X table k h (reportFrom r (members N) ++ rest) i)
-  turn i = cases (eqb r i) (λ e. let z = eqb-true r i e in rw (← z) mine) (λ e. other i (eqb-false r i e))
+      cases (eqb r i)
+      (λ e. let z = eqb-true r i e in rw e (rw (← z, ← b) (heard-mine k (members N))))
+      (λ e. rw e (rw (← b) (heard-other k (members N) i (eqb-false r i e))))
 
 module _ (X : ℕ) (table : List ℕ) (first : ℕ) (h : ℕ → ℕ) (s : List ℕ) (place count each : ℕ) where
-  -- what the reports of k commands from a place on come to for each server
-  abbrev Comes : (arrived : List ℕ) (at number k : ℕ) → List ℕ
-  Comes arrived at number k = values (λ (i : ℕ). come (getD arrived i 0) (heard X table number h (reportCarriages (reportsAt s at k)) i))
+  -- what each server hears of k commands from a place on
+  abbrev Hears : (at number k : ℕ) → ℕ → List ℕ
+  Hears at number k = heard X table number h (reportCarriages (reportsAt s at k))
 
-  abbrev Whole : List ℕ
-  Whole = values (λ (i : ℕ). come 3 (heard X table first h (reportCarriages (reportsAt s place count)) i))
-
-  pub record Gathering (arrived : List ℕ) (at number k : ℕ) : Type 0 where
+  pub record Gathering (against : Against) (at number k : ℕ) : Type 0 where
     pub within : k ≤ count
-    pub eight : length arrived ≡ 8
     pub here : at ≡ place + 3 * k
     pub few : number ≤ first + 8 * k
     pub reports : Each (ReportOf each) (reportsAt s at (count - k))
-    pub so : Comes arrived at number (count - k) ≡ Whole
+    pub so : (b : Against) → Adds against (Hears at number (count - k)) b → Speaks (Hears place first count) b
 
-  pub gathering-starts : Each (ReportOf each) (reportsAt s place count) → Gathering (replicate 8 3) place first 0
+  pub gathering-starts : Each (ReportOf each) (reportsAt s place count) → Gathering (record { zero = 0; one = 0 }) place first 0
   gathering-starts e =
       let z : count - 0 ≡ count = omega arith in
       record {
         within = omega arith;
-        eight = refl;
         here = omega arith;
         few = omega arith;
         reports = rw z e;
-        so = rw z (values-ext _ _ (λ i l. ap (λ (x : ℕ). come x (heard X table first h (reportCarriages (reportsAt s place count)) i)) (getD-replicate 8 i 3 0 l)));
+        so = rw z (λ b a. adds-speaks _ b a);
       }
 
-  module _ (arrived : List ℕ) (at number k : ℕ) (g : Gathering arrived at number k) where
-    pub gathering-done : count ≤ k → arrived ≡ Whole
-    unfolding come heard reportCarriages reportsAt
-    gathering-done l = let z : count - k ≡ 0 = omega arith in let w = rw z at (g .so) in sym (values-is arrived (λ (i : ℕ). getD arrived i 0) (g .eight) (λ i y. refl)) ∙ w
+  module _ (against : Against) (at number k : ℕ) (g : Gathering against at number k) where
+    pub gathering-done : count ≤ k → Speaks (Hears place first count) against
+    unfolding heard reportCarriages reportsAt
+    gathering-done l = let z : count - k ≡ 0 = omega arith in let w = rw z at (g .so) in w against (adds-none against _ (λ i. refl))
 
     module _ (l : k < count) where
-      next : reportsAt s at (count - k) ≡ record { receiver = getD s (at + 1) 0; reporters = getD s (at + 2) 0 } ∷ reportsAt s (at + 3) (count - (k + 1))
+      next-report : reportsAt s at (count - k) ≡ record { receiver = getD s (at + 1) 0; reporters = getD s (at + 2) 0 } ∷ reportsAt s (at + 3) (count - (k + 1))
       unfolding reportsAt
-      next = let z : count - k ≡ suc (count - (k + 1)) = omega arith in rw z refl
+      next-report = let z : count - k ≡ suc (count - (k + 1)) = omega arith in rw z refl
 
       pub gathering-eight : getD s (at + 1) 0 < 8
-      gathering-eight = let e = rw next at (g .reports) in e _ (List·Memᴰ·head refl) .eight
+      gathering-eight = let e = rw next-report at (g .reports) in e _ (List·Memᴰ·head refl) .eight
 
-      module _ (y : ℕ) (q : y ≡ come (getD arrived (getD s (at + 1) 0) 0) (reported X table number h (members (getD s (at + 2) 0)))) (most : each ≤ 8) where
-        pub gathering-goes : Gathering (set arrived (getD s (at + 1) 0) y) (at + 3) (number + each) (k + 1)
+      module _ (next : Against) (q : Adds against (λ (i : ℕ). cond (eqb (getD s (at + 1) 0) i) (reported X table number h (members (getD s (at + 2) 0))) []) next) (most : each ≤ 8) where
+        pub gathering-goes : Gathering next (at + 3) (number + each) (k + 1)
         unfolding reportCarriages
         gathering-goes =
             let r = getD s (at + 1) 0 in
             let N = getD s (at + 2) 0 in
-            let rest = reportsAt s (at + 3) (count - (k + 1)) in
-            let in-range = gathering-eight in
-            let eight = g .eight in
-            let w = rw next at (g .so) in
-            let exact : size N ≡ each = (let a = rw next at (g .reports) in a _ (List·Memᴰ·head refl) .exact) in
+            let rest = reportCarriages (reportsAt s (at + 3) (count - (k + 1))) in
+            let w = rw next-report at (g .so) in
+            let exact : size N ≡ each = (let a = rw next-report at (g .reports) in a _ (List·Memᴰ·head refl) .exact) in
             record {
               within = omega arith;
-              eight = length-set arrived r y ∙ eight;
               here = omega (arith, g .here);
               few = omega (arith, g .few);
-              reports = let a = rw next at (g .reports) in λ x m. a x (List·Memᴰ·tail m);
-              so = rw (← exact) (values-ext _ _ (λ i o. turn X table h r N (reportCarriages rest) arrived number y (omega arith) q i) ∙ w);
+              reports = let a = rw next-report at (g .reports) in λ x m. a x (List·Memᴰ·tail m);
+              so = rw (← exact) (λ b a. w b (adds-then against next b _ _ _ q a (command-turn X table h r rest number N)));
             }

@@ -7,13 +7,14 @@ use Rattle.network.specs.Links.{Links}
 use Rattle.network.specs.Card.{network, readCard}
 use Rattle.plan.specs.Check.{Totals, totals, turned}
 use Rattle.run.specs.Steps
+use Rattle.run.specs.Speaking.{bitsOf, worksOf}
 use Rattle.run.specs.Run.{runPlan, lentAfter}
 use Rattle.run.specs.Demand.{Agreed}
 use Rattle.run.specs.declared.values.Values as Code
 use Rattle.run.specs.declared.call.Ran.{Ran}
 
 abbrev pub valuesOf : Code.Values → Steps.Values
-valuesOf s = record { v = s .v; t = s .t }
+valuesOf s = record { v = bitsOf (s .v); t = worksOf (s .sure) (s .t) }
 
 abbrev pub ranOf : Ran → Totals
 ranOf (Ran.Answered blocks carriages) = totals blocks carriages

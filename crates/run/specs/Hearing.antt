@@ -2,8 +2,8 @@
 --     brought ..     == the table's byte of the carriage's number if a server other than the receiver is faulty, else what the source holds
 --     heard ..       == what the carriages whose receiver is r bring, in plan order; the first of the list has number k
 --     common l       == the value that all of l are, 2 if they are not alike or there is none
---     come x l       == what the arrivals l come to one by one, where x is what the earlier ones came to
-use mathlib.Core.Bool.{Bool, true, false, cond, _&&_, _||_}
+--     against x l   <-> some arrival of l is not x
+use mathlib.Core.Bool.{Bool, true, false, cond, not, _&&_, _||_}
 use mathlib.Core.List.{List, [], _∷_}
 use Prim.Native.Nat.{ℕ, suc}
 use lib.Dec.{eqb, ltb}
@@ -38,13 +38,8 @@ unfoldable pub common : List ℕ → ℕ
 common [] = 2
 common (x ∷ xs) = cond (all x xs) x 2
 
--- one arrival more: 3 stands for none so far, 2 for arrivals that are not alike
-unfoldable pub join : ℕ → ℕ → ℕ
-join x y = cond (eqb x 3) y (cond (eqb x y) x 2)
-
-unfoldable pub come : ℕ → List ℕ → ℕ
-come x [] = x
-come x (y ∷ ys) = come (join x y) ys
+unfoldable pub against : ℕ → List ℕ → Bool
+against x l = not (all x l)
 
 -- what the reports of the servers of a list bring; the first has number k
 unfoldable pub reported : ℕ → List ℕ → ℕ → (ℕ → ℕ) → List ℕ → List ℕ

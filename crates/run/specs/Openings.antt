@@ -2,7 +2,6 @@
 --     Readable n f s     the block that starts s is whole, and its routes and reports name servers
 --     Runnable n f s k   so are the k blocks from here on
 --     Ready o s          o is what the opening command of the block fixes
---     Small l            every value is 0, 1 or 2
 use mathlib.Core.Path.{_≡_}
 use mathlib.Core.List.{List}
 use Prim.Native.Nat.{ℕ, zero, suc, _+_, _≤_, _<_}
@@ -11,9 +10,6 @@ use Rattle.sets.specs.Sets.{size}
 use Rattle.rules.specs.Blocks.{Route, Block, inwardDue, amongDue, outwardDue, decodeBlock, lengthOf, Report}
 use Rattle.rules.specs.Rules.{Each}
 use Rattle.run.specs.declared.block.Opening.{Opening}
-
-abbrev pub Small : List ℕ → Type 0
-Small l = (i : ℕ) → getD l i 0 < 3
 
 -- at least two, each one of the eight that there can be
 pub record Servers (p : Route) : Type 0 where

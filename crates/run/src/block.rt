@@ -5,7 +5,7 @@ ghost use Prim.Native.Nat.{_+_, _*_, _≤_, _<_};
 ghost use lib.ListN.{length};
 ghost use Rattle.sets.specs.Sets.{size, lowest, TableOf};
 ghost use Rattle.run.specs.Steps.{runBlock};
-ghost use Rattle.run.specs.Openings.{Small, Opens, Ready, blockAt};
+ghost use Rattle.run.specs.Openings.{Opens, Ready, blockAt};
 ghost use Rattle.run.specs.Answers.{valuesOf};
 
 // n and f of the network, F, A and S of the block, and how many commands 11, 12, 13 and 14 it has.
@@ -88,7 +88,7 @@ pub(crate) fn run_block(
     block: &[u8],
     lowests: &[u8; 256],
 ) -> Values
-    requires { ⌜ Ready opening (now block) × (number ≤ 1048576) × Small (before .v) × Small (before .t) × TableOf lowest (now lowests) ⌝ }
+    requires { ⌜ Ready opening (now block) × (number ≤ 1048576) × TableOf lowest (now lowests) ⌝ }
     ensures { λ r. ⌜ valuesOf r ≡ runBlock (opening .n) faulty (now (table .entry)) number (blockAt opening (now (block .entry))) (valuesOf before) ⌝ }
 {
     let sound = sets::minus(sets::full(opening.n), opening.fault);

@@ -1,5 +1,6 @@
 // A call to run: card and plan are checked before the first block, then the call is.
 use crate::block;
+use crate::carriage;
 use crate::values::Values;
 use network::card;
 use network::card::Reading;
@@ -8,6 +9,7 @@ use plan::check::Checked;
 use refusal::CallGround;
 use refusal::Refusal;
 ghost use mathlib.Core.Path.{_≡_};
+ghost use mathlib.Core.Bool.{true};
 ghost use mathlib.Core.List.{_++_};
 ghost use Prim.Native.Nat.{_≤_};
 ghost use lib.ListN.{length, drop, replicate};
@@ -15,7 +17,8 @@ ghost use Rattle.plan.specs.Check.{totals};
 ghost use Rattle.rules.specs.Blocks.{decodeBlocks};
 ghost use Rattle.run.specs.Steps.{held, values, runBlocks};
 ghost use Rattle.run.specs.Run.{areBits, checkCall, decided, afterAnswer};
-ghost use Rattle.run.specs.Openings.{Small, Runnable};
+ghost use Rattle.run.specs.Speaking.{bitsOf, worksOf};
+ghost use Rattle.run.specs.Openings.{Runnable};
 ghost use Rattle.run.specs.Answers.{valuesOf, ranOf, Answered};
 
 pub enum Ran {
@@ -35,7 +38,7 @@ fn run_blocks(
     table: &[u8],
     plan: &[u8],
 ) -> Values
-    requires { ⌜ (n ≤ 8) × (f ≤ 2) × (length (now plan) ≤ 1048576) × Runnable n f (now plan) blocks × Small (start .v) × Small (start .t) ⌝ }
+    requires { ⌜ (n ≤ 8) × (f ≤ 2) × (length (now plan) ≤ 1048576) × Runnable n f (now plan) blocks ⌝ }
     ensures { λ r. ⌜ valuesOf r ≡ runBlocks n faulty (now (table .entry)) 0 (decodeBlocks n f (now (plan .entry)) blocks) (valuesOf start) ⌝ }
 {
     let sizes = sets::sizes();
@@ -68,27 +71,29 @@ fn are_bits(inputs: &[u8]) -> bool
 
 // At first v is the input and t is unsure.
 fn first_values(inputs: &[u8]) -> Values
-    requires { ⌜ length (now inputs) ≤ 8 ⌝ }
-    ensures { λ r. ⌜ (r .v ≡ values (held (now (inputs .entry)))) × (r .t ≡ replicate 8 2) ⌝ }
+    requires { ⌜ (length (now inputs) ≤ 8) × (areBits (now inputs) ≡ true) ⌝ }
+    ensures { λ r. ⌜ (bitsOf (r .v) ≡ values (held (now (inputs .entry)))) × (worksOf (r .sure) (r .t) ≡ replicate 8 2) ⌝ }
 {
-    let mut v = [0u8; 8];
+    let mut v: u8 = 0;
     for i in 0..inputs.len() {
-        v[i] = inputs[i];
+        if inputs[i] == 1 {
+            v = sets::union(v, sets::single(i as u8));
+        }
     }
-    Values { v, t: [2; 8] }
+    Values { v, sure: 0, t: 0 }
 }
 
 // v of each sound server, 2 for a faulty one; later bytes are left as they are.
-fn write(n: u8, faulty: u8, v: [u8; 8], lent: &mut [u8])
+fn write(n: u8, faulty: u8, v: u8, lent: &mut [u8])
     requires { ⌜ (n ≤ 8) × (n ≤ length (now lent)) ⌝ }
-    ensures { λ r. ⌜ now (lent .exit) ≡ decided n faulty v ++ drop n (now (lent .entry)) ⌝ }
+    ensures { λ r. ⌜ now (lent .exit) ≡ decided n faulty (bitsOf v) ++ drop n (now (lent .entry)) ⌝ }
 {
     for i in 0..n {
         let j = i as usize;
         if sets::member(faulty, i) {
             lent[j] = 2;
         } else {
-            lent[j] = v[j];
+            lent[j] = carriage::bit(v, i);
         }
     }
 }

@@ -1,17 +1,38 @@
-// What a carriage brings, and what the arrivals of each server come to.
+// What a carriage brings, and what the arrivals of each server speak against.
 ghost use mathlib.Core.Path.{_≡_};
 ghost use mathlib.Core.Bool.{cond};
-ghost use mathlib.Core.List.{map};
-ghost use Prim.Native.Nat.{ℕ, _+_, _*_, _≤_, _<_};
+ghost use mathlib.Core.List.{[], _∷_, map};
+ghost use Prim.Native.Nat.{ℕ, _+_, _*_, _/_, _%_, _≤_, _<_};
+ghost use lib.Dec.{eqb};
 ghost use lib.ListN.{length, getD, take};
 ghost use Rattle.sets.specs.Sets.{has, lowest, TableOf};
 ghost use Rattle.plan.specs.Members.{members};
 ghost use Rattle.plan.specs.Route.{path};
 ghost use Rattle.rules.specs.Blocks.{routesAt, reportsAt, carriageOf, reportCarriages};
 ghost use Rattle.rules.specs.Rules.{Each};
-ghost use Rattle.run.specs.Hearing.{hit, message, brought, heard, join, come, reported};
-ghost use Rattle.run.specs.Steps.{held, values};
+ghost use Rattle.run.specs.Hearing.{hit, message, heard, reported};
+ghost use Rattle.run.specs.Steps.{held};
+ghost use Rattle.run.specs.Speaking.{bitOf, workOf, bitsOf, worksOf, Adds, Speaks};
 ghost use Rattle.run.specs.Openings.{Servers, ReportOf};
+
+// What the arrivals of a step speak against, server by server.
+pub struct Against {
+    // The servers with an arrival other than 0.
+    pub zero: u8,
+    // The servers with an arrival other than 1.
+    pub one: u8,
+}
+
+// Both sets from one number, the second times 256. What a function hands back as two bytes the
+// caller reads as one word, and has to wait for it; a number stays in a register.
+pub(crate) fn unpacked(sets: u16) -> Against
+    ensures { λ r. ⌜ (r .zero ≡ sets % 256) × (r .one ≡ sets / 256) ⌝ }
+{
+    Against {
+        zero: (sets % 256) as u8,
+        one: (sets / 256) as u8,
+    }
+}
 
 // The table's byte of this number: 0 and 1 as they are, any other and a missing one as 2.
 fn message(table: &[u8], number: usize) -> u8
@@ -27,153 +48,193 @@ fn message(table: &[u8], number: usize) -> u8
     2
 }
 
-// Where the receiver stands in the operand: it is the last of the servers.
-fn receiver_place(operand: &[u8]) -> usize
+// A route as its carriage goes along it.
+pub struct Walk {
+    // Where the receiver stands in the operand.
+    pub end: usize,
+    // Some server before the receiver is faulty.
+    pub hit: bool,
+}
+
+// The receiver is the last of the servers, so the walk ends where a fill byte comes next.
+fn walked(faulty: u8, operand: &[u8]) -> Walk
     requires { ⌜ (8 ≤ length (now operand)) × (2 ≤ length (path (take 8 (now operand)))) ⌝ }
-    ensures { λ r. ⌜ (r + 1 ≡ length (path (take 8 (now (operand .entry))))) × (1 ≤ r) × (r ≤ 7) ⌝ }
+    ensures { λ r. ⌜ (r .end + 1 ≡ length (path (take 8 (now (operand .entry))))) × (1 ≤ r .end) × (r .end ≤ 7) × (r .hit ≡ hit faulty (take (r .end) (now (operand .entry)))) ⌝ }
 {
-    for k in 2..8usize {
-        if operand[k] == 255 {
-            return k - 1;
+    let mut hit = sets::member(faulty, operand[0]);
+    for k in 1..7usize {
+        let here = sets::member(faulty, operand[k]);
+        if operand[k + 1] == 255 {
+            return Walk { end: k, hit };
         }
+        hit = hit | here;
     }
-    7
+    Walk { end: 7, hit }
 }
 
-// Some server before this place is faulty.
-fn is_hit(faulty: u8, operand: &[u8], end: usize) -> bool
-    requires { ⌜ end ≤ length (now operand) ⌝ }
-    ensures { λ r. ⌜ r ≡ hit faulty (take end (now (operand .entry))) ⌝ }
+// The value of server i, where `ones` are the servers with 1.
+pub(crate) fn bit(ones: u8, i: u8) -> u8
+    ensures { λ r. ⌜ r ≡ bitOf ones i ⌝ }
 {
-    for i in 0..end {
-        if sets::member(faulty, operand[i]) {
-            return true;
-        }
+    if sets::member(ones, i) {
+        return 1;
     }
-    false
+    0
 }
 
-// What the route's carriage brings: the table's byte if a server before the receiver is faulty,
-// else what the source sends.
-fn brought(faulty: u8, table: &[u8], number: usize, sent: [u8; 8], operand: &[u8], end: usize) -> u8
-    requires { ⌜ (8 ≤ length (now operand)) × (end + 1 ≡ length (path (take 8 (now operand)))) × (1 ≤ end) × (end ≤ 7) × (getD (now operand) 0 0 < 8) ⌝ }
-    ensures { λ r. ⌜ r ≡ brought faulty (now (table .entry)) number (held sent) (carriageOf (path (take 8 (now (operand .entry))))) ⌝ }
+// The t of server i: 2 for one that is not sure.
+fn work(sure: u8, ones: u8, i: u8) -> u8
+    ensures { λ r. ⌜ r ≡ workOf sure ones i ⌝ }
 {
-    if is_hit(faulty, operand, end) {
-        return message(table, number);
-    }
-    let source = operand[0] as usize;
-    sent[source]
-}
-
-// What the arrivals come to with one more: 3 stands for no arrival so far, 2 for arrivals that are
-// not alike.
-fn joined(before: u8, arrival: u8) -> u8
-    ensures { λ r. ⌜ r ≡ join before arrival ⌝ }
-{
-    if before == 3 {
-        return arrival;
-    }
-    if before == arrival {
-        return before;
+    if sets::member(sure, i) {
+        return bit(ones, i);
     }
     2
 }
 
-// What the arrivals over `count` routes come to for each server, from `start` on.
+// What a carriage brings from its source: the table's byte if it was hit, else the source's t.
+fn brought(hit: bool, table: &[u8], number: usize, sure: u8, ones: u8, source: u8) -> u8
+    requires { ⌜ source < 8 ⌝ }
+    ensures { λ r. ⌜ r ≡ cond hit (message (now (table .entry)) number) (held (worksOf sure ones) source) ⌝ }
+{
+    if hit {
+        return message(table, number);
+    }
+    work(sure, ones, source)
+}
+
+// x where the test holds, else y: both are at hand, so that no branch has to be foreseen.
+fn chosen(test: bool, x: u8, y: u8) -> u8
+    ensures { λ r. ⌜ r ≡ cond test x y ⌝ }
+{
+    if test {
+        return x;
+    }
+    y
+}
+
+// One arrival more: 2 speaks against both 0 and 1.
+fn spoken(zero: u8, one: u8, receiver: u8, arrival: u8) -> Against
+    requires { ⌜ receiver < 8 ⌝ }
+    ensures { λ r. ⌜ Adds (record { zero = zero; one = one }) (λ (i : ℕ). cond (eqb receiver i) (arrival ∷ []) []) r ⌝ }
+{
+    let here = sets::single(receiver);
+    let is_zero = arrival == 0;
+    let is_one = arrival == 1;
+    Against {
+        zero: sets::union(zero, chosen(is_zero, 0, here)),
+        one: sets::union(one, chosen(is_one, 0, here)),
+    }
+}
+
+// What the arrivals over `count` routes speak against, where the sources send their t; both sets as
+// one number.
 pub(crate) fn over_routes(
     faulty: u8,
     table: &[u8],
     first: usize,
-    sent: [u8; 8],
-    start: [u8; 8],
+    sure: u8,
+    ones: u8,
     block: &[u8],
     place: usize,
     count: usize,
-) -> [u8; 8]
+) -> u16
     requires { ⌜ (place + 9 * count ≤ length (now block)) × Each Servers (routesAt (now block) place count) × (first + count < 18446744073709551616) ⌝ }
-    ensures { λ r. ⌜ r ≡ values (λ (i : ℕ). come (getD start i 0) (heard faulty (now (table .entry)) first (held sent) (map carriageOf (routesAt (now (block .entry)) place count)) i)) ⌝ }
+    ensures { λ r. ⌜ Speaks (heard faulty (now (table .entry)) first (held (worksOf sure ones)) (map carriageOf (routesAt (now (block .entry)) place count))) (record { zero = r % 256; one = r / 256 }) ⌝ }
 {
-    let mut arrived = start;
+    let mut zero: u8 = 0;
+    let mut one: u8 = 0;
     let mut at = place;
     for k in 0..count {
         let operand_at = at + 1;
         let operand = &block[operand_at..];
-        let end = receiver_place(operand);
-        let receiver = operand[end] as usize;
-        let arrival = brought(faulty, table, first + k, sent, operand, end);
-        let next = joined(arrived[receiver], arrival);
-        arrived[receiver] = next;
+        let route = walked(faulty, operand);
+        let arrival = brought(route.hit, table, first + k, sure, ones, operand[0]);
+        let end = route.end;
+        let next = spoken(zero, one, operand[end], arrival);
+        zero = next.zero;
+        one = next.one;
         at = at + 9;
     }
-    arrived
+    (one as u16) * 256 + (zero as u16)
 }
 
-// What the report of server m brings.
-fn reported(faulty: u8, table: &[u8], number: usize, sent: [u8; 8], m: u8) -> u8
+// What the report of server m brings, where `ones` are the servers whose v is 1.
+fn reported(faulty: u8, table: &[u8], number: usize, ones: u8, m: u8) -> u8
     requires { ⌜ m < 8 ⌝ }
-    ensures { λ r. ⌜ r ≡ cond (has faulty m) (message (now (table .entry)) number) (getD sent m 0) ⌝ }
+    ensures { λ r. ⌜ r ≡ cond (has faulty m) (message (now (table .entry)) number) (getD (bitsOf ones) m 0) ⌝ }
 {
     if sets::member(faulty, m) {
         return message(table, number);
     }
-    let source = m as usize;
-    sent[source]
+    bit(ones, m)
 }
 
-// What the reports of these servers to one receiver come to, from `start` on.
+// What the reports of these servers to one receiver speak against, beside what came before.
 fn over_report(
     faulty: u8,
     table: &[u8],
     first: usize,
-    sent: [u8; 8],
-    start: u8,
+    ones: u8,
+    before: Against,
+    receiver: u8,
     reporters: u8,
     lowests: &[u8; 256],
-) -> u8
-    requires { ⌜ (first + 8 < 18446744073709551616) × TableOf lowest (now lowests) ⌝ }
-    ensures { λ r. ⌜ r ≡ come start (reported faulty (now (table .entry)) first (held sent) (members reporters)) ⌝ }
+) -> Against
+    requires { ⌜ (first + 8 < 18446744073709551616) × (receiver < 8) × TableOf lowest (now lowests) ⌝ }
+    ensures { λ r. ⌜ Adds before (λ (i : ℕ). cond (eqb receiver i) (reported faulty (now (table .entry)) first (held (bitsOf ones)) (members reporters)) []) r ⌝ }
 {
-    let mut arrived = start;
+    let mut zero = before.zero;
+    let mut one = before.one;
     let mut number = first;
     let mut left = reporters;
     while left != 0 {
         let m = lowests[left as usize];
         let others = sets::minus(left, sets::single(m));
-        let arrival = reported(faulty, table, number, sent, m);
-        arrived = joined(arrived, arrival);
+        let arrival = reported(faulty, table, number, ones, m);
+        let next = spoken(zero, one, receiver, arrival);
+        zero = next.zero;
+        one = next.one;
         number = number + 1;
         left = others;
     }
-    arrived
+    Against { zero, one }
 }
 
-// What the reports of `count` commands come to for each server; each command has so many.
+// What the reports of `count` commands speak against; each command has so many.
 pub(crate) fn over_reports(
     faulty: u8,
     table: &[u8],
     first: usize,
-    sent: [u8; 8],
+    ones: u8,
     block: &[u8],
     place: usize,
     count: usize,
     each: usize,
     lowests: &[u8; 256],
-) -> [u8; 8]
+) -> Against
     requires { ⌜ (place + 3 * count ≤ length (now block)) × Each (ReportOf each) (reportsAt (now block) place count) × (each ≤ 8) × (first + 8 * count + 8 < 18446744073709551616) × TableOf lowest (now lowests) ⌝ }
-    ensures { λ r. ⌜ r ≡ values (λ (i : ℕ). come 3 (heard faulty (now (table .entry)) first (held sent) (reportCarriages (reportsAt (now (block .entry)) place count)) i)) ⌝ }
+    ensures { λ r. ⌜ Speaks (heard faulty (now (table .entry)) first (held (bitsOf ones)) (reportCarriages (reportsAt (now (block .entry)) place count))) r ⌝ }
 {
-    let mut arrived = [3u8; 8];
+    let mut against = Against { zero: 0, one: 0 };
     let mut at = place;
     let mut number = first;
     for k in 0..count {
-        let receiver = block[at + 1] as usize;
+        let receiver = block[at + 1];
         let reporters = block[at + 2];
-        let start = arrived[receiver];
-        let next = over_report(faulty, table, number, sent, start, reporters, lowests);
-        arrived[receiver] = next;
+        let next = over_report(
+            faulty,
+            table,
+            number,
+            ones,
+            against,
+            receiver,
+            reporters,
+            lowests,
+        );
+        against = next;
         number = number + each;
         at = at + 3;
     }
-    arrived
+    against
 }

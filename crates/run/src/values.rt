@@ -2,60 +2,65 @@
 // and the arrivals of every step go by the values before the step.
 use crate::block::Opening;
 use crate::carriage;
+use crate::carriage::Against;
 ghost use mathlib.Core.Path.{_≡_};
 ghost use mathlib.Core.Bool.{cond};
 ghost use mathlib.Core.List.{map};
 ghost use Prim.Native.Nat.{ℕ, _+_, _≤_};
-ghost use lib.Dec.{eqb};
-ghost use lib.ListN.{getD};
-ghost use Rattle.sets.specs.Sets.{has, minus, meet, full, lowest, TableOf};
+ghost use Rattle.sets.specs.Sets.{has, minus, full, lowest, TableOf};
 ghost use Rattle.rules.specs.Blocks.{carriageOf, reportCarriages};
 ghost use Rattle.run.specs.Steps.{values, step1, gather, compare, step5, step6};
-ghost use Rattle.run.specs.Openings.{Small, Ready, blockAt};
+ghost use Rattle.run.specs.Speaking.{workOf, bitsOf, worksOf, replaced, alike, settled};
+ghost use Rattle.run.specs.Openings.{Ready, blockAt};
 
+// A value is held as a set of servers, so that a step changes all servers at the same time.
 pub struct Values {
-    // 0 or 1, at first the input.
-    pub v: [u8; 8],
-    // 0, 1, or 2 for unsure.
-    pub t: [u8; 8],
+    // The servers whose v is 1; the others have 0, at first all have their input.
+    pub v: u8,
+    // The servers whose t is 0 or 1; the others have 2, for unsure.
+    pub sure: u8,
+    // The servers whose t is 1, of those that are sure.
+    pub t: u8,
 }
 
-// x where the test holds, else y: both are at hand, so that no branch has to be foreseen.
-fn chosen(test: bool, x: u8, y: u8) -> u8
-    ensures { λ r. ⌜ r ≡ cond test x y ⌝ }
+// The members of `new` in a set, and of `old` outside it.
+fn replaced(old: u8, inside: u8, new: u8) -> u8
+    ensures { λ r. ⌜ r ≡ replaced old inside new ⌝ }
 {
-    if test {
-        return x;
-    }
-    y
+    let kept = sets::minus(old, inside);
+    let taken = sets::meet(new, inside);
+    sets::union(kept, taken)
 }
 
-// Each receiver of the set takes the common value of its arrivals, 2 where they are not alike.
-fn gathered(t: [u8; 8], receivers: u8, arrived: [u8; 8]) -> [u8; 8]
-    ensures { λ r. ⌜ r ≡ values (λ (i : ℕ). cond (has receivers i) (cond (eqb (getD arrived i 0) 3) 2 (getD arrived i 0)) (getD t i 0)) ⌝ }
+// The servers whose arrivals are alike and 0 or 1: they speak against one of the two, not both.
+fn alike(against: Against) -> u8
+    ensures { λ r. ⌜ r ≡ alike (against .zero) (against .one) ⌝ }
 {
-    let mut after = t;
-    for i in 0..8u8 {
-        let j = i as usize;
-        let common = arrived[j];
-        let none = common == 3;
-        let new = chosen(none, 2, common);
-        let value = chosen(sets::member(receivers, i), new, after[j]);
-        after[j] = value;
-    }
-    after
+    let some = sets::union(against.zero, against.one);
+    let both = sets::meet(against.zero, against.one);
+    sets::minus(some, both)
 }
 
 impl Values {
     // 1. Each server of A sets t to v.
     pub(crate) fn step1(mut self, side: u8) -> Values
-        ensures { λ r. ⌜ (r .v ≡ self .v) × (r .t ≡ step1 side (self .v) (self .t)) ⌝ }
+        ensures { λ r. ⌜ (r .v ≡ self .v) × (worksOf (r .sure) (r .t) ≡ step1 side (bitsOf (self .v)) (worksOf (self .sure) (self .t))) ⌝ }
     {
-        for i in 0..8u8 {
-            let j = i as usize;
-            let value = chosen(sets::member(side, i), self.v[j], self.t[j]);
-            self.t[j] = value;
-        }
+        let sure = sets::union(self.sure, side);
+        let t = replaced(self.t, side, self.v);
+        self.sure = sure;
+        self.t = t;
+        self
+    }
+
+    // Each receiver of the set takes the common value of its arrivals, 2 where they are not alike.
+    fn gathered(mut self, receivers: u8, against: Against) -> Values
+        ensures { λ r. ⌜ (r .v ≡ self .v) × (worksOf (r .sure) (r .t) ≡ values (λ (i : ℕ). cond (has receivers i) (settled (has (against .zero) i) (has (against .one) i)) (workOf (self .sure) (self .t) i))) ⌝ }
+    {
+        let sure = replaced(self.sure, receivers, alike(against));
+        let t = replaced(self.t, receivers, against.zero);
+        self.sure = sure;
+        self.t = t;
         self
     }
 
@@ -68,25 +73,22 @@ impl Values {
         number: usize,
         block: &[u8],
     ) -> Values
-        requires { ⌜ Ready opening (now block) × (number ≤ 1048576) × Small (self .t) ⌝ }
-        ensures { λ r. ⌜ (r .v ≡ self .v) × (r .t ≡ gather faulty (now (table .entry)) number (map carriageOf (blockAt opening (now (block .entry)) .inward)) (minus (opening .quorum) (opening .side)) (self .t)) ⌝ }
+        requires { ⌜ Ready opening (now block) × (number ≤ 1048576) ⌝ }
+        ensures { λ r. ⌜ (r .v ≡ self .v) × (worksOf (r .sure) (r .t) ≡ gather faulty (now (table .entry)) number (map carriageOf (blockAt opening (now (block .entry)) .inward)) (minus (opening .quorum) (opening .side)) (worksOf (self .sure) (self .t))) ⌝ }
     {
-        if opening.inward == 0 {
-            return self;
-        }
-        let sent = self.t;
-        let arrived = carriage::over_routes(
+        let heard = carriage::over_routes(
             faulty,
             table,
             number,
-            sent,
-            [3; 8],
+            self.sure,
+            self.t,
             block,
             4,
             opening.inward,
         );
-        let after = gathered(sent, sets::minus(opening.quorum, opening.side), arrived);
-        self.t = after;
+        let against = carriage::unpacked(heard);
+        let after = self.gathered(sets::minus(opening.quorum, opening.side), against);
+        self = after;
         self
     }
 
@@ -99,29 +101,25 @@ impl Values {
         number: usize,
         block: &[u8],
     ) -> Values
-        requires { ⌜ Ready opening (now block) × (number ≤ 1048576) × Small (self .t) ⌝ }
-        ensures { λ r. ⌜ (r .v ≡ self .v) × (r .t ≡ compare faulty (now (table .entry)) (number + opening .inward) (map carriageOf (blockAt opening (now (block .entry)) .among)) (opening .quorum) (self .t)) ⌝ }
+        requires { ⌜ Ready opening (now block) × (number ≤ 1048576) ⌝ }
+        ensures { λ r. ⌜ (r .v ≡ self .v) × (worksOf (r .sure) (r .t) ≡ compare faulty (now (table .entry)) (number + opening .inward) (map carriageOf (blockAt opening (now (block .entry)) .among)) (opening .quorum) (worksOf (self .sure) (self .t))) ⌝ }
     {
-        if opening.among == 0 {
-            return self;
-        }
-        let sent = self.t;
         let place = 4 + 9 * opening.inward;
-        let arrived = carriage::over_routes(
+        let heard = carriage::over_routes(
             faulty,
             table,
             number + opening.inward,
-            sent,
-            sent,
+            self.sure,
+            self.t,
             block,
             place,
             opening.among,
         );
-        for i in 0..8u8 {
-            let j = i as usize;
-            let value = chosen(sets::member(opening.quorum, i), arrived[j], self.t[j]);
-            self.t[j] = value;
-        }
+        let against = carriage::unpacked(heard);
+        // Against 1 for a server whose t is 1, else against 0.
+        let differs = replaced(against.zero, self.t, against.one);
+        let sure = sets::minus(self.sure, sets::meet(opening.quorum, differs));
+        self.sure = sure;
         self
     }
 
@@ -134,43 +132,35 @@ impl Values {
         number: usize,
         block: &[u8],
     ) -> Values
-        requires { ⌜ Ready opening (now block) × (number ≤ 1048576) × Small (self .t) ⌝ }
-        ensures { λ r. ⌜ (r .v ≡ self .v) × (r .t ≡ gather faulty (now (table .entry)) (number + opening .inward + opening .among) (map carriageOf (blockAt opening (now (block .entry)) .outward)) (minus (minus (full (opening .n)) (opening .fault)) (opening .quorum)) (self .t)) ⌝ }
+        requires { ⌜ Ready opening (now block) × (number ≤ 1048576) ⌝ }
+        ensures { λ r. ⌜ (r .v ≡ self .v) × (worksOf (r .sure) (r .t) ≡ gather faulty (now (table .entry)) (number + opening .inward + opening .among) (map carriageOf (blockAt opening (now (block .entry)) .outward)) (minus (minus (full (opening .n)) (opening .fault)) (opening .quorum)) (worksOf (self .sure) (self .t))) ⌝ }
     {
-        if opening.outward == 0 {
-            return self;
-        }
-        let sent = self.t;
         let earlier = opening.inward + opening.among;
         let place = 4 + 9 * earlier;
-        let arrived = carriage::over_routes(
+        let heard = carriage::over_routes(
             faulty,
             table,
             number + earlier,
-            sent,
-            [3; 8],
+            self.sure,
+            self.t,
             block,
             place,
             opening.outward,
         );
+        let against = carriage::unpacked(heard);
         let sound = sets::minus(sets::full(opening.n), opening.fault);
-        let after = gathered(sent, sets::minus(sound, opening.quorum), arrived);
-        self.t = after;
+        let after = self.gathered(sets::minus(sound, opening.quorum), against);
+        self = after;
         self
     }
 
     // 5. Each server of V−F outside A∩S: if t is 0 or 1, v becomes t.
     pub(crate) fn step5(mut self, sound: u8, kept: u8) -> Values
-        ensures { λ r. ⌜ (r .v ≡ step5 sound kept (self .t) (self .v)) × (r .t ≡ self .t) ⌝ }
+        ensures { λ r. ⌜ (bitsOf (r .v) ≡ step5 sound kept (worksOf (self .sure) (self .t)) (bitsOf (self .v))) × (r .sure ≡ self .sure) × (r .t ≡ self .t) ⌝ }
     {
-        let changing = sets::minus(sound, kept);
-        for i in 0..8u8 {
-            let j = i as usize;
-            let sure = self.t[j] < 2;
-            let new = chosen(sure, self.t[j], self.v[j]);
-            let value = chosen(sets::member(changing, i), new, self.v[j]);
-            self.v[j] = value;
-        }
+        let changing = sets::meet(sets::minus(sound, kept), self.sure);
+        let v = replaced(self.v, changing, self.t);
+        self.v = v;
         self
     }
 
@@ -185,33 +175,26 @@ impl Values {
         block: &[u8],
         lowests: &[u8; 256],
     ) -> Values
-        requires { ⌜ Ready opening (now block) × (number ≤ 1048576) × Small (self .v) × TableOf lowest (now lowests) ⌝ }
-        ensures { λ r. ⌜ (r .v ≡ step6 faulty (now (table .entry)) (number + opening .inward + opening .among + opening .outward) (reportCarriages (blockAt opening (now (block .entry)) .reports)) (opening .fault) (self .v)) × (r .t ≡ self .t) ⌝ }
+        requires { ⌜ Ready opening (now block) × (number ≤ 1048576) × TableOf lowest (now lowests) ⌝ }
+        ensures { λ r. ⌜ (bitsOf (r .v) ≡ step6 faulty (now (table .entry)) (number + opening .inward + opening .among + opening .outward) (reportCarriages (blockAt opening (now (block .entry)) .reports)) (opening .fault) (bitsOf (self .v))) × (r .sure ≡ self .sure) × (r .t ≡ self .t) ⌝ }
     {
-        if opening.reports == 0 {
-            return self;
-        }
-        let sent = self.v;
         let earlier = opening.inward + opening.among + opening.outward;
         let place = 4 + 9 * earlier;
-        let arrived = carriage::over_reports(
+        let each = (opening.f as usize) + 1;
+        let against = carriage::over_reports(
             faulty,
             table,
             number + earlier,
-            sent,
+            self.v,
             block,
             place,
             opening.reports,
-            (opening.f as usize) + 1,
+            each,
             lowests,
         );
-        for i in 0..8u8 {
-            let j = i as usize;
-            let sure = arrived[j] < 2;
-            let new = chosen(sure, arrived[j], self.v[j]);
-            let value = chosen(sets::member(opening.fault, i), new, self.v[j]);
-            self.v[j] = value;
-        }
+        let told = sets::meet(opening.fault, alike(against));
+        let v = replaced(self.v, told, against.zero);
+        self.v = v;
         self
     }
 }

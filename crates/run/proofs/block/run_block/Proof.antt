@@ -1,8 +1,5 @@
--- `run::block::run_block` meets its contract. Each step finds the values of the step before small, and the six results make up the block's. Assumes
--- nothing.
-use mathlib.Core.Path.{_∙_}
-use Rattle.run.proofs.Arrivals.{step1-small, gather-small, compare-small, step5-small}
-use Rattle.run.proofs.Blockwise.{small-same, block-runs}
+-- `run::block::run_block` meets its contract. The six steps' results make up the block's. Assumes nothing.
+use Rattle.run.proofs.Blockwise.{block-runs}
 use borrow.Author.Needs.{needs}
 use Rattle.run.proofs.block.run_block.Statement.{statement}
 use Rattle.run.proofs.block.run_block.Tie as tie
@@ -31,22 +28,22 @@ step1-requires : tie.Need-step1-requires
 step1-requires c κs = search needs
 
 step2-requires : tie.Need-step2-requires
-step2-requires c κs = let p = c .before .before .before .before .before .before .pre in (p .0, p .1, small-same _ _ (c .step1 .ensures .1) (step1-small _ _ _ (c .before .before .before .before .before .before .pre .2) (c .before .before .before .before .before .before .pre .3)))
+step2-requires c κs = search needs
 
 step3-requires : tie.Need-step3-requires
-step3-requires c κs = let p = c .before .before .before .before .before .before .before .pre in (p .0, p .1, small-same _ _ (c .step2 .ensures .1) (gather-small _ _ _ _ _ _ (small-same _ _ (c .before .step1 .ensures .1) (step1-small _ _ _ (c .before .before .before .before .before .before .before .pre .2) (c .before .before .before .before .before .before .before .pre .3)))))
+step3-requires c κs = search needs
 
 step4-requires : tie.Need-step4-requires
-step4-requires c κs = let p = c .before .before .before .before .before .before .before .before .pre in (p .0, p .1, small-same _ _ (c .step3 .ensures .1) (compare-small _ _ _ _ _ _ (small-same _ _ (c .before .step2 .ensures .1) (gather-small _ _ _ _ _ _ (small-same _ _ (c .before .before .step1 .ensures .1) (step1-small _ _ _ (c .before .before .before .before .before .before .before .before .pre .2) (c .before .before .before .before .before .before .before .before .pre .3)))))))
+step4-requires c κs = search needs
 
 step5-requires : tie.Need-step5-requires
 step5-requires c κs = search needs
 
 step6-requires : tie.Need-step6-requires
-step6-requires c κs = let p = c .before .before .before .before .before .before .before .before .before .before .pre in (p .0, p .1, small-same _ _ (c .step5 .ensures .0) (step5-small _ _ _ _ (small-same _ _ (c .before .step4 .ensures .1) (gather-small _ _ _ _ _ _ (small-same _ _ (c .before .before .step3 .ensures .1) (compare-small _ _ _ _ _ _ (small-same _ _ (c .before .before .before .step2 .ensures .1) (gather-small _ _ _ _ _ _ (small-same _ _ (c .before .before .before .before .step1 .ensures .1) (step1-small _ _ _ (c .before .before .before .before .before .before .before .before .before .before .pre .2) (c .before .before .before .before .before .before .before .before .before .before .pre .3))))))))) (small-same _ _ (c .before .step4 .ensures .0 ∙ c .before .before .step3 .ensures .0 ∙ c .before .before .before .step2 .ensures .0 ∙ c .before .before .before .before .step1 .ensures .0) (c .before .before .before .before .before .before .before .before .before .before .pre .2))), p .4)
+step6-requires c κs = let p = c .before .before .before .before .before .before .before .before .before .before .pre in (p .0, p .1, p .2)
 
 returns : tie.Need-returns
-returns c = block-runs _ _ (c .before .before .before .before .before .before .before .before .before .before .before .pre .0) _ _ _ _ _ _ _ _ (c .before .before .before .before .before .before .before .before .full .ensures) (c .before .before .before .before .before .before .before .minus .ensures) (c .before .before .before .before .before .before .meet .ensures) _ _ _ _ _ _ _ _ _ _ _ _ (c .before .before .before .before .before .step1 .ensures .0) (c .before .before .before .before .before .step1 .ensures .1) (c .before .before .before .before .step2 .ensures .0) (c .before .before .before .before .step2 .ensures .1) (c .before .before .before .step3 .ensures .0) (c .before .before .before .step3 .ensures .1) (c .before .before .step4 .ensures .0) (c .before .before .step4 .ensures .1) (c .before .step5 .ensures .0) (c .before .step5 .ensures .1) (c .step6 .ensures .0) (c .step6 .ensures .1)
+returns c = block-runs _ _ (c .before .before .before .before .before .before .before .before .before .before .before .pre .0) _ _ _ _ _ _ _ _ _ (c .before .before .before .before .before .before .before .before .full .ensures) (c .before .before .before .before .before .before .before .minus .ensures) (c .before .before .before .before .before .before .meet .ensures) _ _ _ _ _ _ _ _ _ _ _ _ _ _ _ _ _ _ (c .before .before .before .before .before .step1 .ensures .0) (c .before .before .before .before .before .step1 .ensures .1) (c .before .before .before .before .step2 .ensures .0) (c .before .before .before .before .step2 .ensures .1) (c .before .before .before .step3 .ensures .0) (c .before .before .before .step3 .ensures .1) (c .before .before .step4 .ensures .0) (c .before .before .step4 .ensures .1) (c .before .step5 .ensures .0) (c .before .step5 .ensures .1) (c .before .step5 .ensures .2) (c .step6 .ensures .0) (c .step6 .ensures .1) (c .step6 .ensures .2)
 
 pub run-block-spec : {M : Type 1} → statement M
 run-block-spec =

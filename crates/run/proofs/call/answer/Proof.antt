@@ -1,7 +1,7 @@
 -- `run::call::answer` meets its contract. Each ground of the call is tested in its order, and the blocks are run where none is met. Assumes nothing.
-use mathlib.Core.Path.{refl}
+use mathlib.Core.Path.{refl, sym, _∙_}
 use native.Mathlib.Omega.{arith}
-use Rattle.run.proofs.Calls.{refuse-length, refuse-bits, refuse-outside, refuse-many, refuse-room, passes, first-small, written-is}
+use Rattle.run.proofs.Calls.{refuse-length, refuse-bits, refuse-outside, refuse-many, refuse-room, passes, written-is}
 use borrow.Author.Needs.{needs}
 use Rattle.run.proofs.call.answer.Statement.{statement}
 use Rattle.run.proofs.call.answer.Tie as tie
@@ -37,10 +37,10 @@ returns-3 : tie.Need-returns-3
 returns-3 c = (refuse-room _ _ _ _ _ _ (c .before .before .before .before .before .before .before .before .if1 .left) _ (c .before .before .before .before .before .before .before .are-bits .ensures) (c .before .before .before .before .before .before .if2 .taken) (c .before .before .before .before .before .before .before .before .before .before .before .before .before .pre .0) _ (c .before .before .before .before .before .full .ensures) _ (c .before .before .before .before .within .ensures) (c .before .before .before .if3 .taken) _ (c .before .before .size .ensures) (omega arith) (omega arith), refl)
 
 first-values-requires : tie.Need-first-values-requires
-first-values-requires c κs = search needs
+first-values-requires c κs = (search needs, sym (c .before .before .before .before .before .before .before .are-bits .ensures) ∙ c .before .before .before .before .before .before .if2 .taken)
 
 run-blocks-requires : tie.Need-run-blocks-requires
-run-blocks-requires c κs = let p = c .before .before .before .before .before .before .before .before .before .before .before .before .before .before .pre in let s = first-small _ _ (c .before .before .before .before .before .before .before .before .are-bits .ensures) (c .before .before .before .before .before .before .before .if2 .taken) _ _ (c .first-values .ensures .0) (c .first-values .ensures .1) in (p .0, p .1, p .2, p .3, s .0, s .1)
+run-blocks-requires c κs = search needs
 
 write-requires : tie.Need-write-requires
 write-requires c κs = search needs
@@ -49,7 +49,7 @@ same-length : tie.Need-same-length
 same-length c = search needs
 
 returns-4 : tie.Need-returns-4
-returns-4 c = (passes _ _ _ _ _ _ (c .before .before .before .before .before .before .before .before .before .before .before .before .before .before .before .if1 .left) _ (c .before .before .before .before .before .before .before .before .before .before .before .before .before .before .are-bits .ensures) (c .before .before .before .before .before .before .before .before .before .before .before .before .before .if2 .taken) (c .before .before .before .before .before .before .before .before .before .before .before .before .before .before .before .before .before .before .before .before .pre .0) _ (c .before .before .before .before .before .before .before .before .before .before .before .before .full .ensures) _ (c .before .before .before .before .before .before .before .before .before .before .before .within .ensures) (c .before .before .before .before .before .before .before .before .before .before .if3 .taken) _ (c .before .before .before .before .before .before .before .before .before .size .ensures) (omega arith) (omega arith), written-is _ _ _ _ (c .before .before .before .before .before .before .before .before .before .before .before .before .before .before .before .before .before .before .before .before .args .inputs .now) _ _ _ _ _ _ (c .before .before .before .before .before .before .first-values .ensures .0) (c .before .before .before .before .before .before .first-values .ensures .1) (c .before .before .before .before .before .run-blocks .ensures) (c .before .before .write .ensures))
+returns-4 c = (passes _ _ _ _ _ _ (c .before .before .before .before .before .before .before .before .before .before .before .before .before .before .if1 .left) _ (c .before .before .before .before .before .before .before .before .before .before .before .before .before .are-bits .ensures) (c .before .before .before .before .before .before .before .before .before .before .before .before .if2 .taken) (c .before .before .before .before .before .before .before .before .before .before .before .before .before .before .before .before .before .before .before .pre .0) _ (c .before .before .before .before .before .before .before .before .before .before .before .full .ensures) _ (c .before .before .before .before .before .before .before .before .before .before .within .ensures) (c .before .before .before .before .before .before .before .before .before .if3 .taken) _ (c .before .before .before .before .before .before .before .before .size .ensures) (omega arith) (omega arith), written-is _ _ _ _ (c .before .before .before .before .before .before .before .before .before .before .before .before .before .before .before .before .before .before .before .args .inputs .now) _ _ _ _ _ _ (c .before .before .before .before .before .first-values .ensures .0) (c .before .before .before .before .before .first-values .ensures .1) (c .before .before .before .before .run-blocks .ensures) (c .before .before .write .ensures))
 
 returns-5 : tie.Need-returns-5
 returns-5 c = (refuse-outside _ _ _ _ _ _ (c .before .before .before .before .before .if1 .left) _ (c .before .before .before .before .are-bits .ensures) (c .before .before .before .if2 .taken) (c .before .before .before .before .before .before .before .before .before .before .pre .0) _ (c .before .before .full .ensures) _ (c .before .within .ensures) (c .if3 .left), refl)

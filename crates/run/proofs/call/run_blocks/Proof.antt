@@ -3,6 +3,8 @@
 use Prim.Native.Nat.{_-_}
 use native.Mathlib.Omega.{arith}
 use borrow.Author.Needs.{needs}
+use Rattle.run.specs.Speaking.{bitsOf, worksOf}
+use Rattle.run.specs.Answers.{valuesOf}
 use Rattle.run.proofs.Placed.{reports-few}
 use Rattle.run.proofs.Blockwise.{Along, blocks-start, blocks-end, opening-there, block-ready, bytes-fit, numbers-behind, blocks-turn}
 use Rattle.run.proofs.call.run_blocks.Statement.{statement}
@@ -18,7 +20,7 @@ use Rattle.sets.proofs.sizes.Reads as sizes-reads
 
 abbrev Inv-loop : tie.InvT-loop
 Inv-loop n f blocks faulty table plan sizes lowests values₀ at₀ number₀ k₀ values at number k =
-    Along n f faulty table plan blocks (record { v = values₀ .v; t = values₀ .t }) k at number (values .v) (values .t)
+    Along n f faulty table plan blocks (valuesOf values₀) k at number (bitsOf (values .v)) (worksOf (values .sure) (values .t))
 
 abbrev μ-loop : tie.MeasureT-loop
 μ-loop n f blocks faulty table plan sizes lowests values₀ at₀ number₀ k₀ values at number k = blocks - k
@@ -30,7 +32,7 @@ lowests-requires : tie.Need-lowests-requires Inv-loop μ-loop
 lowests-requires c κs = search needs
 
 loop-holds : tie.Need-loop-holds Inv-loop μ-loop
-loop-holds c = let p = c .before .before .before .before .pre in blocks-start _ _ _ _ _ _ _ _ (p .3) (p .4) (p .5)
+loop-holds c = let p = c .before .before .before .before .pre in blocks-start _ _ _ _ _ _ _ _ (p .3)
 
 sub-part : tie.Need-sub-part Inv-loop μ-loop
 sub-part c = search needs
@@ -45,7 +47,7 @@ read-opening-requires : tie.Need-read-opening-requires Inv-loop μ-loop
 read-opening-requires c κs = (c .before .before .before .before .before .before .before .before .pre .0, opening-there _ _ _ _ _ _ _ _ _ _ _ _ (c .before .before .before .loop .inv) (c .before .before .loop-test .taken), c .before .before .before .before .before .sizes .ensures)
 
 run-block-requires : tie.Need-run-block-requires Inv-loop μ-loop
-run-block-requires c κs = let l = c .before .before .before .before .before .loop in (block-ready _ _ _ _ _ _ _ _ _ _ _ _ (c .before .before .before .before .before .loop .inv) (c .before .before .before .before .loop-test .taken) (c .before .before .before .before .before .before .before .before .before .before .pre .0) (c .before .before .before .before .before .before .before .before .before .before .pre .1) (c .before .before .before .before .before .before .before .before .before .before .pre .2) _ (c .before .read-opening .ensures), (let b = l .inv .behind in let i = l .inv .inside in let p = c .before .before .before .before .before .before .before .before .before .before .pre .2 in omega arith), l .inv .smallV, l .inv .smallT, c .before .before .before .before .before .before .lowests .ensures)
+run-block-requires c κs = let l = c .before .before .before .before .before .loop in (block-ready _ _ _ _ _ _ _ _ _ _ _ _ (c .before .before .before .before .before .loop .inv) (c .before .before .before .before .loop-test .taken) (c .before .before .before .before .before .before .before .before .before .before .pre .0) (c .before .before .before .before .before .before .before .before .before .before .pre .1) (c .before .before .before .before .before .before .before .before .before .before .pre .2) _ (c .before .read-opening .ensures), (let b = l .inv .behind in let i = l .inv .inside in let p = c .before .before .before .before .before .before .before .before .before .before .pre .2 in omega arith), c .before .before .before .before .before .before .lowests .ensures)
 
 bytes-requires : tie.Need-bytes-requires Inv-loop μ-loop
 bytes-requires c κs = let b = bytes-fit _ _ _ _ _ _ _ _ _ _ _ _ (c .before .before .before .before .before .before .loop .inv) (c .before .before .before .before .before .loop-test .taken) (c .before .before .before .before .before .before .before .before .before .before .before .pre .0) (c .before .before .before .before .before .before .before .before .before .before .before .pre .1) (c .before .before .before .before .before .before .before .before .before .before .before .pre .2) _ (c .before .before .read-opening .ensures) in omega arith

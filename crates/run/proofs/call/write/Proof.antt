@@ -9,13 +9,14 @@ use Rattle.run.proofs.call.write.Statement.{statement}
 use Rattle.run.proofs.call.write.Tie as tie
 use Rattle.run.proofs.call.write.Reads as reads
 use Rattle.run.proofs.call.write.Lts as lts
+use Rattle.run.proofs.carriage.bit.Reads as bit-reads
 use Rattle.sets.proofs.member.Reads as member-reads
 
 abbrev Inv-loop : tie.InvT-loop
-Inv-loop n faulty lent₀ v i₀ lent i = Writing n faulty v lent₀ lent i
+Inv-loop n faulty v lent₀ i₀ lent i = Writing n faulty v lent₀ lent i
 
 abbrev μ-loop : tie.MeasureT-loop
-μ-loop n faulty lent₀ v i₀ lent i = n - i
+μ-loop n faulty v lent₀ i₀ lent i = n - i
 
 loop-holds : tie.Need-loop-holds Inv-loop μ-loop
 loop-holds c = writing-starts _ _ _ _
@@ -29,8 +30,8 @@ member-requires c κs = search needs
 slice-write-lent : tie.Need-slice-write-lent Inv-loop μ-loop
 slice-write-lent c = search needs
 
-array-read-lent : tie.Need-array-read-lent Inv-loop μ-loop
-array-read-lent c = search needs
+bit-requires : tie.Need-bit-requires Inv-loop μ-loop
+bit-requires c κs = search needs
 
 slice-write-lent-2 : tie.Need-slice-write-lent-2 Inv-loop μ-loop
 slice-write-lent-2 c = search needs
@@ -44,13 +45,13 @@ loop-less c = search needs
 loop-again : tie.Need-loop-again Inv-loop μ-loop
 loop-again c = let l = c .before .before .before .loop in
     let e = c .before .member .ensures in
-    ⊎-elim (λ w. rw (w .1) (writing-faulty _ _ _ _ (omega arith) _ _ (l .inv) (omega arith) _ e (w .0 .taken))) (λ w. rw (w .1) (writing-sound _ _ _ _ (omega arith) _ _ (l .inv) (omega arith) _ e (w .0 .left))) (c .if1 .came)
+    ⊎-elim (λ w. rw (w .1) (writing-faulty _ _ _ _ (omega arith) (omega arith) _ _ (l .inv) (omega arith) _ e (w .0 .taken))) (λ w. rw (w .2) (writing-sound _ _ _ _ (omega arith) (omega arith) _ _ (l .inv) (omega arith) _ e (w .0 .left) _ (w .1 .ensures))) (c .if1 .came)
 
 same-length : tie.Need-same-length Inv-loop μ-loop
 same-length c = search needs
 
 returns : tie.Need-returns Inv-loop μ-loop
-returns c = writing-done _ _ _ _ (omega arith) _ _ (c .before .loop .inv) (omega arith)
+returns c = writing-done _ _ _ _ (omega arith) (omega arith) _ _ (c .before .loop .inv) (omega arith)
 
 pub write-spec : {M : Type 1} → statement M
 write-spec =
@@ -62,7 +63,7 @@ write-spec =
     cast-j
     member-requires
     slice-write-lent
-    array-read-lent
+    bit-requires
     slice-write-lent-2
     add-i
     loop-less

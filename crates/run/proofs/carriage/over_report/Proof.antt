@@ -1,29 +1,30 @@
--- `run::carriage::over_report` meets its contract. The invariant of its loop: what is left of the reporters gives the answer of the whole
+-- `run::carriage::over_report` meets its contract. The invariant of its loop: with what is left of the reporters, what is held becomes that of the whole
 -- (`Reported`). The measure is how many reporters are left. Assumes nothing.
 use lib.ListN.{length}
-use native.Mathlib.Omega.{arith}
 use borrow.Author.Needs.{needs}
+use native.Mathlib.Omega.{arith}
 use Rattle.plan.specs.Members.{members}
 use Rattle.run.specs.Steps.{held}
-use Rattle.run.proofs.Reported.{Arriving, arriving-starts, arriving-eight, arriving-less, arriving-goes, arriving-done}
+use Rattle.run.specs.Speaking.{bitsOf}
+use Rattle.run.proofs.Reported.{Telling, telling-starts, telling-eight, telling-less, telling-goes, telling-done}
 use Rattle.run.proofs.carriage.over_report.Statement.{statement}
 use Rattle.run.proofs.carriage.over_report.Tie as tie
 use Rattle.run.proofs.carriage.over_report.Reads as reads
 use Rattle.run.proofs.carriage.over_report.Lts as lts
-use Rattle.run.proofs.carriage.joined.Reads as joined-reads
 use Rattle.run.proofs.carriage.reported.Reads as reported-reads
+use Rattle.run.proofs.carriage.spoken.Reads as spoken-reads
 use Rattle.sets.proofs.minus.Reads as minus-reads
 use Rattle.sets.proofs.single.Reads as single-reads
 
 abbrev Inv-loop : tie.InvT-loop
-Inv-loop faulty table first sent start reporters lowests arrived₀ number₀ left₀ arrived number left =
-    Arriving faulty table first (held sent) start reporters arrived number left
+Inv-loop faulty table first ones receiver reporters lowests zero₀ one₀ number₀ left₀ zero one number left =
+    Telling faulty table first (held (bitsOf ones)) (record { zero = zero₀; one = one₀ }) receiver reporters (record { zero = zero; one = one }) number left
 
 abbrev μ-loop : tie.MeasureT-loop
-μ-loop faulty table first sent start reporters lowests arrived₀ number₀ left₀ arrived number left = length (members left)
+μ-loop faulty table first ones receiver reporters lowests zero₀ one₀ number₀ left₀ zero one number left = length (members left)
 
 loop-holds : tie.Need-loop-holds Inv-loop μ-loop
-loop-holds c = arriving-starts _ _ _ _ _ _ (search needs)
+loop-holds c = telling-starts _ _ _ _ _ _ _ (search needs)
 
 cast-m : tie.Need-cast-m Inv-loop μ-loop
 cast-m c = search needs
@@ -38,22 +39,22 @@ minus-requires : tie.Need-minus-requires Inv-loop μ-loop
 minus-requires c κs = search needs
 
 reported-requires : tie.Need-reported-requires Inv-loop μ-loop
-reported-requires c κs = arriving-eight _ _ _ _ _ _ _ _ _ (c .before .before .before .before .loop .inv) (c .before .before .before .loop-test .taken) _ (c .before .before .before .before .before .before .pre .1 .entry (c .before .before .before .before .loop .left) (c .before .before .before .before .loop .inv .0))
+reported-requires c κs = telling-eight _ _ _ _ _ _ _ _ _ _ (c .before .before .before .before .loop .inv) (c .before .before .before .loop-test .taken) _ (c .before .before .before .before .before .before .pre .2 .entry (c .before .before .before .before .loop .left) (c .before .before .before .before .loop .inv .byte))
 
-joined-requires : tie.Need-joined-requires Inv-loop μ-loop
-joined-requires c κs = search needs
+spoken-requires : tie.Need-spoken-requires Inv-loop μ-loop
+spoken-requires c κs = c .before .before .before .before .before .before .before .pre .1
 
 add-number : tie.Need-add-number Inv-loop μ-loop
-add-number c = let l = arriving-less _ _ _ _ _ _ _ _ _ (c .before .before .before .before .before .before .loop .inv) (c .before .before .before .before .before .loop-test .taken) _ (c .before .before .before .before .before .before .before .before .pre .1 .entry (c .before .before .before .before .before .before .loop .left) (c .before .before .before .before .before .before .loop .inv .0)) _ _ (c .before .before .before .single .ensures) (c .before .before .minus .ensures) in let f = c .before .before .before .before .before .before .loop .inv .1 in let p = c .before .before .before .before .before .before .before .before .pre .0 in omega arith
+add-number c = let l = telling-less _ _ _ _ _ _ _ _ _ _ (c .before .before .before .before .before .before .loop .inv) (c .before .before .before .before .before .loop-test .taken) _ (c .before .before .before .before .before .before .before .before .pre .2 .entry (c .before .before .before .before .before .before .loop .left) (c .before .before .before .before .before .before .loop .inv .byte)) _ _ (c .before .before .before .single .ensures) (c .before .before .minus .ensures) in let f = c .before .before .before .before .before .before .loop .inv .few in let p = c .before .before .before .before .before .before .before .before .pre .0 in omega arith
 
 loop-less : tie.Need-loop-less Inv-loop μ-loop
-loop-less c = arriving-less _ _ _ _ _ _ _ _ _ (c .before .before .before .before .before .before .loop .inv) (c .before .before .before .before .before .loop-test .taken) _ (c .before .before .before .before .before .before .before .before .pre .1 .entry (c .before .before .before .before .before .before .loop .left) (c .before .before .before .before .before .before .loop .inv .0)) _ _ (c .before .before .before .single .ensures) (c .before .before .minus .ensures)
+loop-less c = telling-less _ _ _ _ _ _ _ _ _ _ (c .before .before .before .before .before .before .loop .inv) (c .before .before .before .before .before .loop-test .taken) _ (c .before .before .before .before .before .before .before .before .pre .2 .entry (c .before .before .before .before .before .before .loop .left) (c .before .before .before .before .before .before .loop .inv .byte)) _ _ (c .before .before .before .single .ensures) (c .before .before .minus .ensures)
 
 loop-again : tie.Need-loop-again Inv-loop μ-loop
-loop-again c = arriving-goes _ _ _ _ _ _ _ _ _ (c .before .before .before .before .before .before .loop .inv) (c .before .before .before .before .before .loop-test .taken) _ (c .before .before .before .before .before .before .before .before .pre .1 .entry (c .before .before .before .before .before .before .loop .left) (c .before .before .before .before .before .before .loop .inv .0)) _ _ (c .before .before .before .single .ensures) (c .before .before .minus .ensures) _ (c .before .reported .ensures) _ (c .joined .ensures)
+loop-again c = telling-goes _ _ _ _ _ _ _ _ _ _ (c .before .before .before .before .before .before .loop .inv) (c .before .before .before .before .before .loop-test .taken) _ (c .before .before .before .before .before .before .before .before .pre .2 .entry (c .before .before .before .before .before .before .loop .left) (c .before .before .before .before .before .before .loop .inv .byte)) _ _ (c .before .before .before .single .ensures) (c .before .before .minus .ensures) _ (c .before .reported .ensures) _ (c .spoken .ensures)
 
 returns : tie.Need-returns Inv-loop μ-loop
-returns c = arriving-done _ _ _ _ _ _ _ _ _ (c .before .loop .inv) (search needs)
+returns c = telling-done _ _ _ _ _ _ _ _ _ _ (c .before .loop .inv) (search needs)
 
 pub over-report-spec : {M : Type 1} → statement M
 over-report-spec =
@@ -67,7 +68,7 @@ over-report-spec =
     single-requires
     minus-requires
     reported-requires
-    joined-requires
+    spoken-requires
     add-number
     loop-less
     loop-again

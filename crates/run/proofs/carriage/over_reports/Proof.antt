@@ -1,9 +1,10 @@
--- `run::carriage::over_reports` meets its contract. The invariant of its loop: what is left of the commands gives the answer of the whole
--- (`Gathering`). The measure is how many commands are left. Assumes nothing.
+-- `run::carriage::over_reports` meets its contract. The invariant of its loop: with what is left of the commands, what is held becomes that of the whole
+-- (`Reported`). The measure is how many commands are left. Assumes nothing.
 use Prim.Native.Nat.{_-_}
-use native.Mathlib.Omega.{arith}
 use borrow.Author.Needs.{needs}
+use native.Mathlib.Omega.{arith}
 use Rattle.run.specs.Steps.{held}
+use Rattle.run.specs.Speaking.{bitsOf}
 use Rattle.run.proofs.Reported.{Gathering, gathering-starts, gathering-eight, gathering-goes, gathering-done}
 use Rattle.run.proofs.carriage.over_reports.Statement.{statement}
 use Rattle.run.proofs.carriage.over_reports.Tie as tie
@@ -12,11 +13,11 @@ use Rattle.run.proofs.carriage.over_reports.Lts as lts
 use Rattle.run.proofs.carriage.over_report.Reads as over-report-reads
 
 abbrev Inv-loop : tie.InvT-loop
-Inv-loop faulty table first sent block place count each lowests arrived₀ at₀ number₀ k₀ arrived at number k =
-    Gathering faulty table first (held sent) block place count each arrived at number k
+Inv-loop faulty table first ones block place count each lowests against₀ at₀ number₀ k₀ against at number k =
+    Gathering faulty table first (held (bitsOf ones)) block place count each against at number k
 
 abbrev μ-loop : tie.MeasureT-loop
-μ-loop faulty table first sent block place count each lowests arrived₀ at₀ number₀ k₀ arrived at number k = count - k
+μ-loop faulty table first ones block place count each lowests against₀ at₀ number₀ k₀ against at number k = count - k
 
 loop-holds : tie.Need-loop-holds Inv-loop μ-loop
 loop-holds c = gathering-starts _ _ _ _ _ _ _ _ (c .before .before .pre .1)
@@ -27,23 +28,14 @@ add-receiver c = search needs
 shared-slice-read-receiver : tie.Need-shared-slice-read-receiver Inv-loop μ-loop
 shared-slice-read-receiver c = search needs
 
-cast-receiver : tie.Need-cast-receiver Inv-loop μ-loop
-cast-receiver c = let l = c .before .before .loop in let z = gathering-eight _ _ _ _ _ _ _ _ _ (l .at) _ _ (l .inv) (c .before .loop-test .taken) in omega arith
-
 add-reporters : tie.Need-add-reporters Inv-loop μ-loop
 add-reporters c = search needs
 
 shared-slice-read-reporters : tie.Need-shared-slice-read-reporters Inv-loop μ-loop
 shared-slice-read-reporters c = search needs
 
-array-read-start : tie.Need-array-read-start Inv-loop μ-loop
-array-read-start c = let l = c .before .before .before .loop in let z = gathering-eight _ _ _ _ _ _ _ _ _ (l .at) _ _ (l .inv) (c .before .before .loop-test .taken) in omega arith
-
 over-report-requires : tie.Need-over-report-requires Inv-loop μ-loop
-over-report-requires c κs = (search needs, c .before .before .before .before .before .before .pre .4)
-
-array-write-arrived : tie.Need-array-write-arrived Inv-loop μ-loop
-array-write-arrived c = let l = c .before .before .before .before .loop in let z = gathering-eight _ _ _ _ _ _ _ _ _ (l .at) _ _ (l .inv) (c .before .before .before .loop-test .taken) in omega arith
+over-report-requires c κs = let l = c .before .before .before .loop in (search needs, gathering-eight _ _ _ _ _ _ _ _ _ (l .at) _ _ (l .inv) (c .before .before .loop-test .taken), c .before .before .before .before .before .before .pre .4)
 
 add-number : tie.Need-add-number Inv-loop μ-loop
 add-number c = search needs
@@ -72,12 +64,9 @@ over-reports-spec =
     loop-holds
     add-receiver
     shared-slice-read-receiver
-    cast-receiver
     add-reporters
     shared-slice-read-reporters
-    array-read-start
     over-report-requires
-    array-write-arrived
     add-number
     add-at
     add-k

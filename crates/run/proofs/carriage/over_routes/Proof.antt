@@ -1,26 +1,32 @@
--- `run::carriage::over_routes` meets its contract. The invariant of its loop: what the routes left give with what has arrived is what the whole gives.
--- The measure is how many routes are left. Assumes nothing.
-use Prim.Native.Nat.{_-_}
-use native.Mathlib.Omega.{arith}
+-- `run::carriage::over_routes` meets its contract. The invariant of its loop: with what the routes left bring, what is held becomes what the whole speaks
+-- against. The measure is how many routes are left. Assumes nothing.
 use borrow.Author.Needs.{needs}
-use Rattle.run.proofs.Carried.{route-wide, route-two, route-source, route-receiver, comeOver, Arriving, arrivals-start, arrivals-go, arrivals-end}
+use mathlib.Core.List.{map}
+use Prim.Native.Nat.{_-_, _<_}
+use native.Mathlib.Omega.{arith}
+use Rattle.rules.specs.Blocks.{routesAt, carriageOf}
+use Rattle.run.specs.Hearing.{heard}
+use Rattle.run.specs.Steps.{held}
+use Rattle.run.specs.Speaking.{worksOf}
+use Rattle.run.proofs.Speaking.{speaks-packed}
+use Rattle.run.proofs.Carried.{brought-is, route-wide, route-two, route-source, route-receiver, Arriving, arrivals-start, arrivals-go, arrivals-end}
 use Rattle.run.proofs.carriage.over_routes.Statement.{statement}
 use Rattle.run.proofs.carriage.over_routes.Tie as tie
 use Rattle.run.proofs.carriage.over_routes.Reads as reads
 use Rattle.run.proofs.carriage.over_routes.Lts as lts
 use Rattle.run.proofs.carriage.brought.Reads as brought-reads
-use Rattle.run.proofs.carriage.joined.Reads as joined-reads
-use Rattle.run.proofs.carriage.receiver_place.Reads as receiver-place-reads
+use Rattle.run.proofs.carriage.spoken.Reads as spoken-reads
+use Rattle.run.proofs.carriage.walked.Reads as walked-reads
 
 abbrev Inv-loop : tie.InvT-loop
-Inv-loop faulty table first sent block place count arrived₀ at₀ k₀ arrived at k =
-    Arriving faulty table first sent block count (comeOver faulty table first sent arrived₀ block place count) arrived at k
+Inv-loop faulty table first sure ones block place count zero₀ one₀ at₀ k₀ zero one at k =
+    Arriving faulty table first (held (worksOf sure ones)) block count (heard faulty table first (held (worksOf sure ones)) (map carriageOf (routesAt block place count))) (record { zero = zero; one = one }) at k × (zero < 256) × (one < 256)
 
 abbrev μ-loop : tie.MeasureT-loop
-μ-loop faulty table first sent block place count arrived₀ at₀ k₀ arrived at k = count - k
+μ-loop faulty table first sure ones block place count zero₀ one₀ at₀ k₀ zero one at k = count - k
 
 loop-holds : tie.Need-loop-holds Inv-loop μ-loop
-loop-holds c = arrivals-start _ _ _ _ _ _ (c .before .before .args .start) _ (search needs) (c .before .before .pre .0) (c .before .before .pre .1)
+loop-holds c = (arrivals-start _ _ _ _ _ _ _ (c .before .before .pre .0) (c .before .before .pre .1), omega arith, omega arith)
 
 add-operand-at : tie.Need-add-operand-at Inv-loop μ-loop
 add-operand-at c = search needs
@@ -34,33 +40,25 @@ part-operand-start c = search needs
 part-operand-end : tie.Need-part-operand-end Inv-loop μ-loop
 part-operand-end c = search needs
 
-receiver-place-requires : tie.Need-receiver-place-requires Inv-loop μ-loop
-receiver-place-requires c κs = (route-wide (c .before .before .loop .inv) (c .before .loop-test .taken), route-two (c .before .before .loop .inv) (c .before .loop-test .taken))
-
-shared-slice-read-receiver : tie.Need-shared-slice-read-receiver Inv-loop μ-loop
-shared-slice-read-receiver c = let w = route-wide (c .before .before .before .before .loop .inv) (c .before .before .before .loop-test .taken) in
-    let e = c .before .receiver-place .ensures in
-    omega arith
-
-cast-receiver : tie.Need-cast-receiver Inv-loop μ-loop
-cast-receiver c = let r = route-receiver (c .before .before .before .before .loop .inv) (c .before .before .before .loop-test .taken) _ (c .before .receiver-place .ensures .0) (c .before .receiver-place .ensures .2) in
-    search needs
+walked-requires : tie.Need-walked-requires Inv-loop μ-loop
+walked-requires c κs = (route-wide (c .before .before .loop .inv .0) (c .before .loop-test .taken), route-two (c .before .before .loop .inv .0) (c .before .loop-test .taken))
 
 add-brought : tie.Need-add-brought Inv-loop μ-loop
 add-brought c = search needs
 
+shared-slice-read-brought : tie.Need-shared-slice-read-brought Inv-loop μ-loop
+shared-slice-read-brought c = let w = route-wide (c .before .before .before .before .loop .inv .0) (c .before .before .before .loop-test .taken) in omega arith
+
 brought-requires : tie.Need-brought-requires Inv-loop μ-loop
-brought-requires c κs = let e = c .before .receiver-place .ensures in
-    (route-wide (c .before .before .before .before .loop .inv) (c .before .before .before .loop-test .taken), e .0, e .1, e .2, route-source (c .before .before .before .before .loop .inv) (c .before .before .before .loop-test .taken) _ (e .0) (e .2))
+brought-requires c κs = let e = c .before .walked .ensures in route-source (c .before .before .before .before .loop .inv .0) (c .before .before .before .loop-test .taken) _ (e .0) (e .2)
 
-array-read-joined : tie.Need-array-read-joined Inv-loop μ-loop
-array-read-joined c = route-receiver (c .before .before .before .before .before .loop .inv) (c .before .before .before .before .loop-test .taken) _ (c .before .before .receiver-place .ensures .0) (c .before .before .receiver-place .ensures .2)
+shared-slice-read-spoken : tie.Need-shared-slice-read-spoken Inv-loop μ-loop
+shared-slice-read-spoken c = let w = route-wide (c .before .before .before .before .before .before .loop .inv .0) (c .before .before .before .before .before .loop-test .taken) in
+    let e = c .before .before .before .walked .ensures in
+    omega arith
 
-joined-requires : tie.Need-joined-requires Inv-loop μ-loop
-joined-requires c κs = search needs
-
-array-write-arrived : tie.Need-array-write-arrived Inv-loop μ-loop
-array-write-arrived c = route-receiver (c .before .before .before .before .before .before .loop .inv) (c .before .before .before .before .before .loop-test .taken) _ (c .before .before .before .receiver-place .ensures .0) (c .before .before .before .receiver-place .ensures .2)
+spoken-requires : tie.Need-spoken-requires Inv-loop μ-loop
+spoken-requires c κs = let e = c .before .before .before .walked .ensures in route-receiver (c .before .before .before .before .before .before .loop .inv .0) (c .before .before .before .before .before .loop-test .taken) _ (e .0) (e .2)
 
 add-at : tie.Need-add-at Inv-loop μ-loop
 add-at c = search needs
@@ -72,10 +70,23 @@ loop-less : tie.Need-loop-less Inv-loop μ-loop
 loop-less c = search needs
 
 loop-again : tie.Need-loop-again Inv-loop μ-loop
-loop-again c = arrivals-go (c .before .before .before .before .before .before .loop .inv) (c .before .before .before .before .before .loop-test .taken) _ (c .before .before .before .receiver-place .ensures .0) (c .before .before .before .receiver-place .ensures .2) _ _ (c .before .brought .ensures) (c .joined .ensures)
+loop-again c = let e = c .before .before .before .before .walked .ensures in
+    (arrivals-go (c .before .before .before .before .before .before .before .loop .inv .0) (c .before .before .before .before .before .before .loop-test .taken) _ (e .0) (e .2) _ _ (brought-is _ _ (e .0) (e .2) _ _ _ _ _ (e .3) (e .1) _ (c .before .before .brought .ensures)) (c .spoken .ensures), search needs, search needs)
+
+cast-result : tie.Need-cast-result Inv-loop μ-loop
+cast-result c = let i = c .before .loop .inv in search needs
+
+mul-result : tie.Need-mul-result Inv-loop μ-loop
+mul-result c = let i = c .before .loop .inv in search needs
+
+cast-result-2 : tie.Need-cast-result-2 Inv-loop μ-loop
+cast-result-2 c = let i = c .before .loop .inv in search needs
+
+add-result : tie.Need-add-result Inv-loop μ-loop
+add-result c = let i = c .before .loop .inv in search needs
 
 returns : tie.Need-returns Inv-loop μ-loop
-returns c = arrivals-end (c .before .loop .inv) (c .loop-test .left)
+returns c = speaks-packed _ _ _ (c .before .loop .inv .1) (arrivals-end (c .before .loop .inv .0) (c .loop-test .left))
 
 pub over-routes-spec : {M : Type 1} → statement M
 over-routes-spec =
@@ -88,16 +99,18 @@ over-routes-spec =
     sub-operand
     part-operand-start
     part-operand-end
-    receiver-place-requires
-    shared-slice-read-receiver
-    cast-receiver
+    walked-requires
     add-brought
+    shared-slice-read-brought
     brought-requires
-    array-read-joined
-    joined-requires
-    array-write-arrived
+    shared-slice-read-spoken
+    spoken-requires
     add-at
     add-k
     loop-less
     loop-again
+    cast-result
+    mul-result
+    cast-result-2
+    add-result
     returns)

@@ -1,10 +1,13 @@
 -- `run::carriage::reported` meets its contract. Assumes nothing.
-use mathlib.Core.Path.{refl, sym, _∙_}
+use mathlib.Core.Path.{sym, _∙_}
+use Rattle.run.specs.Speaking.{bitOf}
+use Rattle.run.proofs.Eight.{values-at}
 use borrow.Author.Needs.{needs}
 use Rattle.run.proofs.carriage.reported.Statement.{statement}
 use Rattle.run.proofs.carriage.reported.Tie as tie
 use Rattle.run.proofs.carriage.reported.Reads as reads
 use Rattle.run.proofs.carriage.reported.Lts as lts
+use Rattle.run.proofs.carriage.bit.Reads as bit-reads
 use Rattle.run.proofs.carriage.message.Reads as message-reads
 use Rattle.sets.proofs.member.Reads as member-reads
 
@@ -17,12 +20,12 @@ message-requires c κs = search needs
 returns : tie.Need-returns
 returns c = rw (sym (c .before .before .member .ensures) ∙ c .before .if1 .taken) (c .message .ensures)
 
-array-read-result : tie.Need-array-read-result
-array-read-result c = search needs
+bit-requires : tie.Need-bit-requires
+bit-requires c κs = search needs
 
 returns-2 : tie.Need-returns-2
-returns-2 c = rw (sym (c .before .member .ensures) ∙ c .if1 .left) refl
+returns-2 c = rw (sym (c .before .before .member .ensures) ∙ c .before .if1 .left) (c .bit .ensures ∙ sym (values-at (bitOf (c .before .before .before .before .args .ones)) (c .before .before .before .before .args .m) (c .before .before .before .before .pre)))
 
 pub reported-spec : {M : Type 1} → statement M
 reported-spec =
-    tie.close (tie.spec member-requires message-requires returns array-read-result returns-2)
+    tie.close (tie.spec member-requires message-requires returns bit-requires returns-2)
