@@ -21,8 +21,8 @@ fn main() {
 
 fn site(folder: &Path) -> Result<String, Refusal> {
     // A file that is not there counts as empty.
-    let [card, plan, run_in] =
-        ["network.card", "network.plan", "run.in"].map(|name| fs::read(folder.join(name)).unwrap_or_default());
+    let [card, plan, run_in] = ["network.card", "network.plan", "run.in"]
+        .map(|name| fs::read(folder.join(name)).unwrap_or_default());
 
     let (n, _) = agreement::read_size(&card)?;
     if let Some(split) = agreement::split_test(&card)? {

@@ -4,19 +4,34 @@ use std::hint::black_box;
 use std::time::{Duration, Instant};
 
 /// How often each function gets its turn; odd, so that there is a middle one.
-pub const ROUNDS: usize = 15;
+pub const ROUNDS: usize = 61;
 /// How long one turn is: all turns of one function take about 0.3 seconds.
-const TURN: Duration = Duration::from_millis(20);
+const TURN: Duration = Duration::from_millis(5);
 
-/// The median times of `one` and of `other`.
-pub fn nanoseconds_per_call<A, B>(one: impl Fn() -> A, other: impl Fn() -> B) -> (f64, f64) {
+/// What two functions took by turns.
+pub struct Times {
+    /// The median time of a call to each, in nanoseconds.
+    pub one: f64,
+    pub other: f64,
+    /// The median of the rounds' ratios, one to other. The two turns of a round are next to
+    /// each other, so that a machine which gets slower in between counts for both.
+    pub ratio: f64,
+}
+
+pub fn nanoseconds_per_call<A, B>(one: impl Fn() -> A, other: impl Fn() -> B) -> Times {
     let (one_calls, other_calls) = (calls_in_a_turn(&one), calls_in_a_turn(&other));
-    let (mut one_times, mut other_times) = (Vec::new(), Vec::new());
-    for _ in 0..ROUNDS {
-        one_times.push(time(&one, one_calls) / f64::from(one_calls));
-        other_times.push(time(&other, other_calls) / f64::from(other_calls));
+    let rounds: Vec<(f64, f64)> = (0..ROUNDS)
+        .map(|_| {
+            let one_time = time(&one, one_calls) / f64::from(one_calls);
+            let other_time = time(&other, other_calls) / f64::from(other_calls);
+            (one_time, other_time)
+        })
+        .collect();
+    Times {
+        one: median(rounds.iter().map(|round| round.0)),
+        other: median(rounds.iter().map(|round| round.1)),
+        ratio: median(rounds.iter().map(|round| round.0 / round.1)),
     }
-    (median(one_times), median(other_times))
 }
 
 /// Finds by doubling how many calls fill a turn; this warms the caches up as well.
@@ -41,7 +56,8 @@ fn time<A>(function: &impl Fn() -> A, calls: u32) -> f64 {
     start.elapsed().as_nanos() as f64
 }
 
-fn median(mut times: Vec<f64>) -> f64 {
-    times.sort_by(f64::total_cmp);
-    times[times.len() / 2]
+fn median(numbers: impl Iterator<Item = f64>) -> f64 {
+    let mut numbers: Vec<f64> = numbers.collect();
+    numbers.sort_by(f64::total_cmp);
+    numbers[numbers.len() / 2]
 }

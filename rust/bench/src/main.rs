@@ -6,7 +6,8 @@
 //! ```
 //!
 //! Both are called in one process on the same bytes, by turns, and the middle one of
-//! many rounds is what counts, so that a busy machine disturbs both alike.
+//! many rounds is what counts, for the ratio too, so that a busy machine disturbs both
+//! alike.
 
 #![forbid(unsafe_code)]
 
@@ -24,7 +25,8 @@ fn main() {
         eprintln!("times of a debug build say nothing: cargo run --release -p bench");
         process::exit(2);
     }
-    println!("Times in nanoseconds per call, the median of {ROUNDS} rounds by turns.");
+    println!("Times in nanoseconds per call, the median of {ROUNDS} rounds by turns; the ratio is");
+    println!("the median of the rounds' ratios, so the two times need not divide to it exactly.");
     println!("Library and reference are both built for release, in one process, on one input;");
     println!("a call leaves nothing behind, and each run gets a fresh buffer of eight bytes.");
     let cases = cards::cases();
@@ -88,9 +90,9 @@ fn heading(function: &str) {
 }
 
 fn row<A, B>(name: &str, ours: impl Fn() -> A, reference: impl Fn() -> B) {
-    let (ours, reference) = nanoseconds_per_call(ours, reference);
+    let times = nanoseconds_per_call(ours, reference);
     println!(
-        "{name:<44} {ours:>10.1} {reference:>10.1} {:>15.3}",
-        ours / reference
+        "{name:<44} {:>10.1} {:>10.1} {:>15.3}",
+        times.one, times.other, times.ratio
     );
 }
