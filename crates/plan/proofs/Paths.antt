@@ -119,7 +119,7 @@ module _ (n : ℕ) (links : Links) (busy last receiver : ℕ) (s : List ℕ) (en
   walk-ends h = sym (rw (part-over end s fits i h) refl)
 
 -- the path is the part of the operand before the fill, and what is left is the fill's to fill
-path-part : (l : List ℕ) → path l ≡ take (length (path l)) l
+pub path-part : (l : List ℕ) → path l ≡ take (length (path l)) l
 unfolding path
 path-part [] = refl
 path-part (b ∷ bs) = cases (eqb b 255) (λ e. rw e refl) (λ e. rw e (ap (λ (x : List ℕ). b ∷ x) (path-part bs)))

@@ -7,7 +7,7 @@
 use mathlib.Core.Path.{_≡_, refl, sym, ap, _∙_}
 use mathlib.Core.Bool.{Bool, true, false, cond}
 use mathlib.Core.List.{List, [], _∷_, _++_, append-nil}
-use Prim.Native.Nat.{ℕ, zero, suc, _+_, _≤_}
+use Prim.Native.Nat.{ℕ, suc, _+_, _≤_}
 use native.Mathlib.Omega.{arith}
 use lib.Dec.{ltb}
 use lib.ListN.{length, getD, drop, length-append, drop-of-length-le}
@@ -20,21 +20,16 @@ use Rattle.network.proofs.Main.{card-proper}
 use Rattle.plan.specs.Due.{due}
 use Rattle.plan.specs.Check.{Progress, reached, stopped, width, andThen, checkBlocks, checkEnd, Totals, totals, turned, totalsOf, checkOn, checkPlan}
 use Rattle.plan.proofs.Groups.{whole-command}
-use Rattle.rules.specs.Blocks.{Block, encodeBlocks, encodePlan, decodeBlock, lengthOf, decodeBlocks, decodePlan, planCarriages}
+use Rattle.rules.specs.Blocks.{Block, encodeBlocks, encodePlan, decodePlan, planCarriages}
 use Rattle.rules.specs.Rules.{InOrder}
 use Rattle.rules.specs.Theorems.{Exact, Decodes, Totalled, Grouped}
 use Rattle.rules.proofs.Order.{order-together}
 use Rattle.rules.proofs.Spans.{Span, span-left, span-right}
 use Rattle.rules.proofs.Bytes.{span-head}
-use Rattle.rules.proofs.Progress.{reached-same, cond-false, due-forward, due-backward, then-forward, cut-backward}
-use Rattle.rules.proofs.Whole.{blocks-forward, blocks-backward}
+use Rattle.rules.proofs.Progress.{turned-totals, reached-same, cond-false, due-forward, due-backward, then-forward, cut-backward}
+use Rattle.rules.proofs.Whole.{decode-length, blocks-forward, blocks-backward}
 
 -- totals
-
--- 0 for totals, 1 for a refusal
-abbrev kind : Totals → ℕ
-kind (totals blocks carriages) = 0
-kind (turned r) = 1
 
 abbrev blocksIn : Totals → ℕ
 blocksIn (totals blocks carriages) = blocks
@@ -43,9 +38,6 @@ blocksIn (turned r) = 0
 abbrev carriagesIn : Totals → ℕ
 carriagesIn (totals blocks carriages) = carriages
 carriagesIn (turned r) = 0
-
-turned-totals {ℓ} : {C : Type ℓ} (r : Refused) (blocks carriages : ℕ) → turned r ≡ totals blocks carriages → C
-turned-totals r blocks carriages e = absurd (let z : _≡_ {A = ℕ} 1 0 = ap kind e in omega arith)
 
 totals-forward : (m : ℕ) (p : Progress) (blocks carriages : ℕ) → totalsOf m p ≡ totals blocks carriages
     → (at : ℕ) × (p ≡ reached at carriages) × (blocks ≡ m)
@@ -90,11 +82,6 @@ whole-span : (s bytes : List ℕ) → bytes ≡ s → Span s 0 bytes
 whole-span s bytes e =
     let z : 0 + length s ≡ length s = omega arith in
     rw e (rw z (rw (drop-length s) (sym (append-nil s))))
-
-decode-length : (n f : ℕ) (s : List ℕ) (k : ℕ) → length (decodeBlocks n f s k) ≡ k
-unfolding decodeBlocks
-decode-length n f s zero = refl
-decode-length n f s (suc k) = ap suc (decode-length n f (drop (lengthOf (decodeBlock n f s)) s) k)
 
 -- the whole check, for the network of a card
 module _ (card s : List ℕ) (n f : ℕ) (links : Links) (e : readCard card ≡ network n f links) where

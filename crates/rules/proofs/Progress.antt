@@ -1,5 +1,6 @@
 -- Taking apart what a check reached.
 --     stopped-reached  a check that stopped reached nothing
+--     turned-totals    a refusal gives no totals
 --     reached-same     the place and the carriages that are reached are the only ones
 --     cond-true        a test that must hold for a place to be reached; cond-false one that must fail
 --     due-forward      the command that is due is there, whole, and what follows is reached; due-backward the other way
@@ -15,7 +16,16 @@ use native.Mathlib.Omega.{arith}
 use lib.Dec.{eqb}
 use lib.ListN.{length, getD}
 use borrow.Author.Tests.{lt-ltb, le-ltb, eq-eqb, ne-eqb, eqb-true}
-use Rattle.plan.specs.Check.{Progress, reached, stopped, width, isCut, isDue, andThen, onward}
+use Rattle.refusal.specs.Refused.{Refused}
+use Rattle.plan.specs.Check.{Progress, reached, stopped, width, isCut, isDue, andThen, onward, Totals, totals, turned}
+
+-- 0 for totals, 1 for a refusal
+abbrev outcome : Totals → ℕ
+outcome (totals blocks carriages) = 0
+outcome (turned r) = 1
+
+pub turned-totals {ℓ} : {C : Type ℓ} (r : Refused) (blocks carriages : ℕ) → turned r ≡ totals blocks carriages → C
+turned-totals r blocks carriages e = absurd (let z : _≡_ {A = ℕ} 1 0 = ap outcome e in omega arith)
 
 -- 0 for a place, 1 for a refusal
 abbrev kind : Progress → ℕ

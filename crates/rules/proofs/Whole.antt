@@ -1,13 +1,14 @@
 -- The check of one block, and of the blocks of a list of due ones.
 --     block-forward    what passes the check of a due block is the encoding of a block within the rules; block-backward the other way
 --     block-long       how many bytes a block's encoding has
+--     decode-length    how many blocks are decoded
 --     blocks-forward   the same for the due blocks of a list; blocks-backward the other way
 -- Assumes nothing.
 use mathlib.Core.Path.{_≡_, refl, sym, ap, _∙_}
 use mathlib.Core.Logic.{_⊎_, inl, inr, ⊎-elim}
 use mathlib.Core.Bool.{true, false, not, _&&_, _||_}
 use mathlib.Core.List.{List, [], _∷_, _++_, map}
-use Prim.Native.Nat.{ℕ, _+_, _*_, _≤_}
+use Prim.Native.Nat.{ℕ, zero, suc, _+_, _*_, _≤_}
 use native.Mathlib.Omega.{arith}
 use lib.Dec.{eqb}
 use lib.ListN.{length, getD, drop, length-append, length-map}
@@ -371,3 +372,8 @@ module _ (n f : ℕ) (links : Links) (few : n ≤ 8) where
       let x : at + lengthOf b + length (encodeBlocks bs) ≡ at + length (encodeBlock b ++ encodeBlocks bs) = omega arith in
       let y : c + length (carriagesOf b) + length (planCarriages bs) ≡ c + length (carriagesOf b ++ planCarriages bs) = omega arith in
       rw e (rw (x, y) at ih)
+
+pub decode-length : (n f : ℕ) (s : List ℕ) (k : ℕ) → length (decodeBlocks n f s k) ≡ k
+unfolding decodeBlocks
+decode-length n f s zero = refl
+decode-length n f s (suc k) = ap suc (decode-length n f (drop (lengthOf (decodeBlock n f s)) s) k)

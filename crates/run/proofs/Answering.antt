@@ -6,7 +6,7 @@
 -- Assumes nothing.
 use mathlib.Core.Path.{_≡_, refl, sym, ap, _∙_}
 use mathlib.Core.List.{List, _++_}
-use Prim.Native.Nat.{ℕ, suc, zero, _≤_}
+use Prim.Native.Nat.{ℕ, _≤_}
 use lib.ListN.{length, drop, replicate}
 use Rattle.refusal.specs.Refused.{Refused, refusalOf}
 use Rattle.refusal.specs.declared.Refusal.{Refusal}
@@ -18,7 +18,8 @@ use Rattle.network.proofs.Main.{card-proper}
 use Rattle.plan.specs.Due.{due}
 use Rattle.plan.specs.Check.{totals, turned, checkPlan}
 use Rattle.plan.proofs.Plans.{with-links}
-use Rattle.rules.specs.Blocks.{decodeBlock, lengthOf, decodeBlocks, decodePlan}
+use Rattle.rules.specs.Blocks.{decodeBlocks, decodePlan}
+use Rattle.rules.proofs.Whole.{decode-length}
 use Rattle.rules.proofs.Main.{totalled}
 use Rattle.run.specs.Steps.{held, values, runBlocks}
 use Rattle.run.specs.Run.{checkCall, runOn, runPlan, decided, written, afterAnswer, lentAfter}
@@ -28,11 +29,6 @@ use Rattle.run.specs.declared.call.Ran.{Ran}
 use Rattle.run.proofs.Accepting.{accepted-runnable}
 use Rattle.run.proofs.Decides.{demand}
 
-decode-long : (n f : ℕ) (s : List ℕ) (k : ℕ) → length (decodeBlocks n f s k) ≡ k
-unfolding decodeBlocks
-decode-long n f s zero = refl
-decode-long n f s (suc k) = ap suc (decode-long n f (drop (lengthOf (decodeBlock n f s)) s) k)
-
 -- the network that the card reader's answer gives, and its accepted plan
 module _ (card plan : List ℕ) (n f : ℕ) (before links : Links) (e : headOf (readCard card) ≡ head n f) (l : links ≡ linksAfter (readCard card) before) where
   network-is : readCard card ≡ network n f links
@@ -41,7 +37,7 @@ module _ (card plan : List ℕ) (n f : ℕ) (before links : Links) (e : headOf (
   module _ (blocks carriages : ℕ) (c : totals blocks carriages ≡ checkPlan card plan) where
     many : blocks ≡ length (due n f)
     unfolding decodePlan
-    many = totalled card plan n f links network-is blocks carriages (sym c) .0 ∙ decode-long n f plan (length (due n f))
+    many = totalled card plan n f links network-is blocks carriages (sym c) .0 ∙ decode-length n f plan (length (due n f))
 
     pub call-ready : (n ≤ 8) × (f ≤ 2) × (length plan ≤ 1048576) × Runnable n f plan blocks
     call-ready =

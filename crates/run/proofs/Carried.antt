@@ -20,6 +20,7 @@ use Rattle.facts.proofs.Bools.{cases}
 use Rattle.sets.specs.Sets.{has}
 use Rattle.plan.specs.Route.{path}
 use Rattle.plan.specs.Check.{routeAt}
+use Rattle.plan.proofs.Paths.{path-part}
 use Rattle.plan.proofs.Groups.{part-rest}
 use Rattle.rules.specs.Blocks.{Carriage, carriageOf, routesAt}
 use Rattle.rules.specs.Rules.{Each}
@@ -77,12 +78,7 @@ pub hit-first : (X : ℕ) (s : List ℕ) → 0 < length s → has X (getD s 0 0)
 unfolding hit
 hit-first X s h = hit-more X s 0 h
 
--- the path is the part of the operand before the fill
-path-part : (l : List ℕ) → path l ≡ take (length (path l)) l
-unfolding path
-path-part [] = refl
-path-part (b ∷ bs) = cases (eqb b 255) (λ e. rw e refl) (λ e. rw e (ap (λ (x : List ℕ). b ∷ x) (path-part bs)))
-
+-- the servers of the route: its path is the part of the operand before the fill
 module _ (s : List ℕ) (end : ℕ) (w : end + 1 ≡ length (path (take 8 s))) (few : end ≤ 7) where
   path-is : path (take 8 s) ≡ take (end + 1) s
   path-is = path-part (take 8 s) ∙ ap (λ (x : ℕ). take x (take 8 s)) (sym w) ∙ take-take (end + 1) 8 s (omega arith)

@@ -26,6 +26,7 @@ use Rattle.plan.specs.Due.{due}
 use Rattle.plan.specs.Check.{Totals, totals, turned, checkPlan}
 use Rattle.rules.specs.Blocks.{Block, decodePlan}
 use Rattle.rules.specs.Rules.{Each, InOrder}
+use Rattle.rules.proofs.Progress.{turned-totals}
 use Rattle.rules.proofs.Main.{decodes}
 use Rattle.run.specs.Steps.{Values, held, valuesFrom, values, runBlocks}
 use Rattle.run.specs.Bc.{bc, Sound}
@@ -39,14 +40,6 @@ use Rattle.run.proofs.Folded.{run-same}
 use Rattle.run.proofs.Someone.{some-sound}
 use Rattle.run.proofs.Validity.{validity}
 use Rattle.run.proofs.Agreement.{agreement-of}
-
--- 0 for an answer, 1 for a refusal
-abbrev kind : Totals → ℕ
-kind (totals blocks carriages) = 0
-kind (turned r) = 1
-
-turned-totals {ℓ} : {C : Type ℓ} (r : Refused) (b c : ℕ) → turned r ≡ totals b c → C
-turned-totals r b c e = absurd (let z : _≡_ {A = ℕ} 1 0 = ap kind e in omega arith)
 
 -- what a call that is not refused has passed
 pub record Called (card plan inputs : List ℕ) (X : ℕ) (lent : List ℕ) (n f : ℕ) : Type 0 where
