@@ -76,7 +76,7 @@ impl Values {
         requires { ⌜ Ready opening (now block) × (number ≤ 1048576) ⌝ }
         ensures { λ r. ⌜ (r .v ≡ self .v) × (worksOf (r .sure) (r .t) ≡ gather faulty (now (table .entry)) number (map carriageOf (blockAt opening (now (block .entry)) .inward)) (minus (opening .quorum) (opening .side)) (worksOf (self .sure) (self .t))) ⌝ }
     {
-        let heard = carriage::over_routes(
+        let inward = carriage::over_routes(
             faulty,
             table,
             number,
@@ -86,7 +86,7 @@ impl Values {
             4,
             opening.inward,
         );
-        let against = carriage::unpacked(heard);
+        let against = carriage::unpacked(inward);
         let after = self.gathered(sets::minus(opening.quorum, opening.side), against);
         self = after;
         self
@@ -105,7 +105,7 @@ impl Values {
         ensures { λ r. ⌜ (r .v ≡ self .v) × (worksOf (r .sure) (r .t) ≡ compare faulty (now (table .entry)) (number + opening .inward) (map carriageOf (blockAt opening (now (block .entry)) .among)) (opening .quorum) (worksOf (self .sure) (self .t))) ⌝ }
     {
         let place = 4 + 9 * opening.inward;
-        let heard = carriage::over_routes(
+        let among = carriage::over_routes(
             faulty,
             table,
             number + opening.inward,
@@ -115,7 +115,7 @@ impl Values {
             place,
             opening.among,
         );
-        let against = carriage::unpacked(heard);
+        let against = carriage::unpacked(among);
         // Against 1 for a server whose t is 1, else against 0.
         let differs = replaced(against.zero, self.t, against.one);
         let sure = sets::minus(self.sure, sets::meet(opening.quorum, differs));
@@ -137,7 +137,7 @@ impl Values {
     {
         let earlier = opening.inward + opening.among;
         let place = 4 + 9 * earlier;
-        let heard = carriage::over_routes(
+        let outward = carriage::over_routes(
             faulty,
             table,
             number + earlier,
@@ -147,7 +147,7 @@ impl Values {
             place,
             opening.outward,
         );
-        let against = carriage::unpacked(heard);
+        let against = carriage::unpacked(outward);
         let sound = sets::minus(sets::full(opening.n), opening.fault);
         let after = self.gathered(sets::minus(sound, opening.quorum), against);
         self = after;
