@@ -86,12 +86,12 @@ adds-one a r y l here h z o p q b e f = record {
 }
 
 -- both sets as one number
-pub speaks-packed : (hears : ℕ → List ℕ) (zero one : ℕ) → zero < 256 → Speaks hears (record { zero = zero; one = one })
-    → Speaks hears (record { zero = (one * 256 + zero) % 256; one = (one * 256 + zero) / 256 })
-speaks-packed hears zero one l p =
-    let z : (one * 256 + zero) % 256 ≡ zero = omega arith in
-    let o : (one * 256 + zero) / 256 ≡ one = omega arith in
-    record { zero = λ i. rw z (p .zero i); one = λ i. rw o (p .one i) }
+pub speaks-packed : (hears : ℕ → List ℕ) (z o : ℕ) → z < 256 → Speaks hears (record { zero = z; one = o })
+    → Speaks hears (record { zero = (o * 256 + z) % 256; one = (o * 256 + z) / 256 })
+speaks-packed hears z o l p =
+    let low : (o * 256 + z) % 256 ≡ z = omega arith in
+    let high : (o * 256 + z) / 256 ≡ o = omega arith in
+    record { zero = λ i. rw low (p .zero i); one = λ i. rw high (p .one i) }
 
 pub speaks-unpacked : (hears : ℕ → List ℕ) (sets : ℕ) → Speaks hears (record { zero = sets % 256; one = sets / 256 })
     → (a : Against) → a .zero ≡ sets % 256 → a .one ≡ sets / 256 → Speaks hears a

@@ -33,7 +33,7 @@ unfoldable pub replaced : ℕ → ℕ → ℕ → ℕ
 replaced old inside new = union (minus old inside) (meet new inside)
 
 unfoldable pub alike : ℕ → ℕ → ℕ
-alike zero one = minus (union zero one) (meet zero one)
+alike z o = minus (union z o) (meet z o)
 
 pub record Adds (a : Against) (hears : ℕ → List ℕ) (b : Against) : Type 0 where
   pub zero : (i : ℕ) → has (b .zero) i ≡ (has (a .zero) i || against 0 (hears i))
