@@ -5,6 +5,7 @@
 --     replaced o s n   == the members of n in s, and of o outside it
 --     alike z o        == the servers whose arrivals are alike and 0 or 1, where z have one that is not 0 and o one that is not 1
 --     Adds a hears b   <-> b is a with what each server i hears, hears i
+--     Speaks hears a   <-> a is what each server i hears, and nothing else
 --     settled z o      == the common value of arrivals, where z says that some is not 0 and o that some is not 1
 use mathlib.Core.Path.{_≡_}
 use mathlib.Core.Bool.{Bool, cond, _||_}
