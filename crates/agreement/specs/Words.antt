@@ -10,8 +10,8 @@ use Rattle.plan.specs.Check.{Totals, totals}
 use Rattle.plan.specs.Check as Check
 use Rattle.network.specs.Links.{Links}
 use Rattle.network.specs.Card.{network, readCard}
-use Rattle.run.specs.Run.{runPlan, lentAfter}
-use Rattle.run.specs.Demand.{Agreed}
+use Rattle.steps.specs.Run.{runPlan, lentAfter}
+use Rattle.steps.specs.Demand.{Agreed}
 
 abbrev pub refusedWords : Refused → List ℕ
 refusedWords r = 2 ∷ whoseOf r ∷ numberOf r ∷ placeOf r ∷ []

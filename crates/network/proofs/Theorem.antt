@@ -1,6 +1,7 @@
 -- The split test and Theorem 1: the search finds no bad split exactly if the condition holds, and reports the first partition that breaks it.
 --     good-condition, condition-good   the answer is good exactly if the condition holds
 --     bad-broken                       the reported split breaks the condition
+--     bad-inside                       it is one of four sets of V
 --     bad-first                        no split before it does
 -- A partition that breaks the condition is found at the numbers of its sets, and what passes the test at some numbers is such a partition.
 -- Assumes nothing.
@@ -12,11 +13,11 @@ use native.Mathlib.Omega.{arith}
 use lib.Dec.{ltb}
 use borrow.Author.Tests.{ltb-true, ltb-false}
 use Rattle.facts.proofs.Bools.{cases, clash, is-false}
-use Rattle.sets.specs.Sets.{Set, has, count, encode}
-use Rattle.sets.proofs.Members.{encode-has, encode-small}
+use Rattle.sets.specs.Sets.{Set, Edges, has, union, minus, full, count, encode}
+use Rattle.sets.proofs.Members.{minus-small, full-small, encode-has, encode-small}
 use Rattle.network.specs.Links.{Links, linkedIn}
 use Rattle.network.specs.Split.{good, bad, rest, firstBad}
-use Rattle.network.specs.Condition.{Edges, neighbour, Arrow, joined, Broken, Condition, Earlier}
+use Rattle.network.specs.Condition.{neighbour, Arrow, joined, Broken, Condition, Earlier}
 use Rattle.network.proofs.Search.{breaks, firstBad-good, firstBad-all, firstBad-bad}
 use Rattle.network.proofs.Partitions.{breaks-broken, broken-breaks}
 
@@ -55,6 +56,13 @@ pub bad-broken : (n f : ℕ) (links : Links) → n ≤ 8 → (F L C R : ℕ) →
 bad-broken n f links h F L C R e =
     let w = firstBad-bad n f links F L C R e in
     rw (w .others) at (breaks-broken n f links F L R h (w .F-small) (w .L-small) (w .R-small) (w .here))
+
+pub bad-inside : (n f : ℕ) (links : Links) (F L C R : ℕ) → firstBad n f links ≡ bad F L C R → (F < 2 ^ n) × (L < 2 ^ n) × (C < 2 ^ n) × (R < 2 ^ n)
+unfolding rest
+bad-inside n f links F L C R e =
+    let w = firstBad-bad n f links F L C R e in
+    let c : rest n F L R < 2 ^ n = minus-small n (minus (full n) F) (union L R) (minus-small n (full n) F (full-small n)) in
+    (w .F-small, w .L-small, rw (w .others) at c, w .R-small)
 
 pub bad-first : (n f : ℕ) (links : Links) → n ≤ 8 → (F L C R : ℕ) → firstBad n f links ≡ bad F L C R
     → (F′ L′ C′ R′ : ℕ) → F′ < 2 ^ n → L′ < 2 ^ n → R′ < 2 ^ n → Earlier F′ L′ R′ F L R

@@ -3,20 +3,17 @@
 --     Arrow n f E A B       <-> A → B of Definition 1: A contains at least f + 1 distinct incoming neighbours of B
 --     Partition n F L C R   <-> each server of V is in exactly one of F, L, C, R
 --     Broken n f E F L C R  <-> F, L, C, R are such a partition and neither holds
---     Exact, Sound, First       what the split test says of it
+--     Exact, Sound, Inside, First    what the split test says of it
 --     Condition n f E       <-> for any partition with L and R not empty and |F| ≤ f, either L∪C → R or R∪C → L
 use mathlib.Core.Path.{_≡_}
 use mathlib.Core.Logic.{_⊎_, _↔_}
 use mathlib.Core.Bool.{Bool, true, false, not, _&&_, _||_}
 use mathlib.Core.List.{List}
 use Prim.Native.Nat.{ℕ, _^_, _≤_, _<_}
-use Rattle.sets.specs.Sets.{Set, In, Out, has, count}
+use Rattle.sets.specs.Sets.{Set, Edges, In, Out, has, count}
 use Rattle.network.specs.Links.{Links, linkedIn}
 use Rattle.network.specs.Card.{network, readCard}
 use Rattle.network.specs.Split.{good, bad, someBelow, splitTest}
-
-abbrev pub Edges : Type 0
-Edges = ℕ → ℕ → Bool
 
 -- i is an incoming neighbour of B: some j of B has (i, j) in E
 unfoldable pub neighbour : ℕ → Edges → Set → Set
@@ -75,7 +72,14 @@ Sound =
     → (F L C R : ℕ) → splitTest s ≡ bad F L C R
     → Broken n f (linkedIn links) (has F) (has L) (has C) (has R)
 
--- and no split before it does
+-- what is reported are four sets of V: as numbers they are below 2^n
+abbrev pub Inside : Type 0
+Inside =
+    (s : List ℕ) (n f : ℕ) (links : Links) → readCard s ≡ network n f links
+    → (F L C R : ℕ) → splitTest s ≡ bad F L C R
+    → (F < 2 ^ n) × (L < 2 ^ n) × (C < 2 ^ n) × (R < 2 ^ n)
+
+-- and no split before it breaks the condition
 abbrev pub First : Type 0
 First =
     (s : List ℕ) (n f : ℕ) (links : Links) → readCard s ≡ network n f links

@@ -16,8 +16,9 @@ use Rattle.sets.specs.Sets.{Set, meet, minus, full, within, single}
 use Rattle.network.specs.Links.{Links}
 use Rattle.plan.specs.Members.{members, listFrom}
 use Rattle.plan.specs.Due.{DueBlock, Group, blocksOf, fan, toOne, pairs, routesDue}
-use Rattle.plan.specs.Route.{isRoute, path, serversOf}
-use Rattle.plan.specs.Check.{Progress, reached, stopped, andThen, onward, width, isCut, isDue, isReport, routeAt, checkGroup, checkGroups, checkReports, checkBlock, checkBlocks}
+use Rattle.route.specs.Route.{isRoute, path, serversOf}
+use Rattle.route.specs.Commands.{width, isCut}
+use Rattle.plan.specs.Check.{Progress, reached, stopped, andThen, onward, isDue, isReport, routeAt, checkGroup, checkGroups, checkReports, checkBlock, checkBlocks}
 use Rattle.plan.specs.Answers.{progressOf, groupOf}
 use Rattle.plan.specs.declared.check.Progress as Code
 use Rattle.plan.proofs.Groups.{whole-command}

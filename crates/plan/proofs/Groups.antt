@@ -14,9 +14,10 @@ use Rattle.sets.specs.Sets.{union, meet, minus, single}
 use Rattle.sets.proofs.Members.{meet-nothing}
 use Rattle.network.specs.Links.{Links}
 use Rattle.plan.specs.Due.{Group}
-use Rattle.plan.specs.Route.{path, serversOf, isRoute, checkedRoute}
-use Rattle.plan.specs.Check.{Progress, reached, stopped, width, isCut, isDue, routeAt, checkGroup}
-use Rattle.plan.proofs.Paths.{route-not-empty}
+use Rattle.route.specs.Route.{path, serversOf, isRoute, checkedRoute}
+use Rattle.route.specs.Commands.{width, isCut}
+use Rattle.plan.specs.Check.{Progress, reached, stopped, isDue, routeAt, checkGroup}
+use Rattle.route.proofs.Paths.{route-not-empty}
 
 -- a command that is not cut off has its operands
 pub whole-command : (s : List ℕ) (at w : ℕ) → isCut s at ≡ false → width (getD s at 0) ≡ w → (at < length s) × (w ≤ length s - at)

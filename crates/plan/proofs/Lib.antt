@@ -1,6 +1,4 @@
 -- Counts      how many blocks are due, computed from the definition
--- Commands    the command at a place
--- Paths       the servers of a route: where the fill starts, and the walk from server to server
 -- Groups      the separate routes to one receiver
 -- Joins       checks in a row
 -- Walks       loops over the members of a set, each taking the check one step on
@@ -12,8 +10,6 @@
 -- Plans       the blocks of a plan, one fault set after the other, and the plan as a whole
 -- Lowests     the members of a set, taken out from the lowest on
 pub mod Counts
-pub mod Commands
-pub mod Paths
 pub mod Groups
 pub mod Joins
 pub mod Walks

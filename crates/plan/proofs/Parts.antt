@@ -16,7 +16,8 @@ use Rattle.sets.specs.Sets.{minus, full, within}
 use Rattle.network.specs.Links.{Links}
 use Rattle.plan.specs.Members.{members}
 use Rattle.plan.specs.Due.{fan, pairs, routesDue}
-use Rattle.plan.specs.Check.{Progress, reached, stopped, andThen, isCut, isDue, checkGroups, checkReports, checkBlock}
+use Rattle.route.specs.Commands.{isCut}
+use Rattle.plan.specs.Check.{Progress, reached, stopped, andThen, isDue, checkGroups, checkReports, checkBlock}
 use Rattle.plan.specs.Answers.{progressOf, dueOf}
 use Rattle.plan.specs.declared.check.Progress as Code
 use Rattle.plan.proofs.Joins.{then-then, groups-append}

@@ -13,7 +13,8 @@ use borrow.Author.Tests.{eq-eqb, ne-eqb}
 use Rattle.sets.specs.Sets.{has, minus, within, full, size}
 use Rattle.network.specs.Links.{Links, linkedIn}
 use Rattle.plan.specs.Members.{listFrom, members}
-use Rattle.plan.specs.Check.{reached, stopped, width, isCut, isDue, allLinked, isReport, checkReports}
+use Rattle.route.specs.Commands.{width, isCut}
+use Rattle.plan.specs.Check.{reached, stopped, isDue, allLinked, isReport, checkReports}
 use Rattle.plan.proofs.Groups.{whole-command}
 use Rattle.plan.proofs.Walks.{walk, list-next, list-skip, list-done, walk-done, walk-skips, walk-stops, walk-goes, reportStep, reports-walk}
 

@@ -19,7 +19,8 @@ use Rattle.sets.specs.Sets.{Set, single, minus, full}
 use Rattle.network.specs.Links.{Links}
 use Rattle.plan.specs.Members.{listFrom}
 use Rattle.plan.specs.Due.{isPart, blocksOf, blocksOfAll, fan, toOne, pairs}
-use Rattle.plan.specs.Check.{Progress, reached, stopped, andThen, onward, isCut, isDue, isReport, checkGroup, checkGroups, checkReports, checkBlock, checkBlocks}
+use Rattle.route.specs.Commands.{isCut}
+use Rattle.plan.specs.Check.{Progress, reached, stopped, andThen, onward, isDue, isReport, checkGroup, checkGroups, checkReports, checkBlock, checkBlocks}
 use Rattle.plan.specs.Answers.{progressOf, groupOf}
 use Rattle.plan.specs.declared.check.Progress as Code
 use Rattle.plan.proofs.Joins.{then-same, groups-append, blocks-append}

@@ -9,28 +9,15 @@ use Rattle.refusal.specs.Refused.{Refused, plan}
 use Rattle.sets.specs.Sets.{union, meet, minus, within, full, size, single}
 use Rattle.network.specs.Links.{Links, linkedIn}
 use Rattle.network.specs.Card.{Network, network, refused, readCard}
+use Rattle.route.specs.Route.{path, serversOf, isRoute}
+use Rattle.route.specs.Commands.{isCut}
 use Rattle.plan.specs.Members.{members}
 use Rattle.plan.specs.Due.{DueBlock, due, Group, routesDue}
-use Rattle.plan.specs.Route.{path, serversOf, isRoute}
 
 -- the place reached and the carriages so far, or the refusal
 pub data Progress : Type 0 where
   reached : (at carriages : ℕ) → Progress
   stopped : (number place : ℕ) → Progress
-
--- how many bytes a command takes: 10 F A S, 11 to 13 with a route, 14 k N, 15; 0 for an unknown one
-unfoldable pub width : ℕ → ℕ
-width c =
-    cond (eqb c 0x10) 4
-    (cond (eqb c 0x11) 9
-    (cond (eqb c 0x12) 9
-    (cond (eqb c 0x13) 9
-    (cond (eqb c 0x14) 3
-    (cond (eqb c 0x15) 1 0)))))
-
--- no command, an unknown one, or one whose operands are cut off
-unfoldable pub isCut : List ℕ → ℕ → Bool
-isCut s at = not (ltb at (length s)) || (eqb (width (getD s at 0)) 0 || ltb (length s - at) (width (getD s at 0)))
 
 -- the tests 2 and 7 of the command at a place, and what follows for the command that is due
 unfoldable pub isDue : List ℕ → ℕ → ℕ → Progress → Progress

@@ -1,11 +1,10 @@
 // The plan check: the blocks in the order due, and in each block its commands in the order due.
-use crate::command;
-use crate::route;
 use network::card;
 use network::card::Reading;
 use network::links;
 use refusal::PlanGround;
 use refusal::Refusal;
+use route::command;
 ghost use mathlib.Core.Path.{_≡_};
 ghost use mathlib.Core.Bool.{_||_};
 ghost use Prim.Native.Nat.{_+_, _*_, _^_, _≤_, _<_};
@@ -16,8 +15,8 @@ ghost use Rattle.sets.specs.Sets.{minus, full, lowest, TableOf};
 ghost use Rattle.network.specs.Card.{network};
 ghost use Rattle.plan.specs.Members.{listFrom, members};
 ghost use Rattle.plan.specs.Due.{isPart, blocksOf, due, fan, toOne, pairs, routesDue};
-ghost use Rattle.plan.specs.Route.{serversOf};
-ghost use Rattle.plan.specs.Check.{width, andThen, checkGroup, checkGroups, allLinked, isReport, checkReports, checkBlock, checkBlocks, checkEnd, checkOn, checkPlan};
+ghost use Rattle.route.specs.Commands.{width};
+ghost use Rattle.plan.specs.Check.{andThen, checkGroup, checkGroups, allLinked, isReport, checkReports, checkBlock, checkBlocks, checkEnd, checkOn, checkPlan};
 ghost use Rattle.plan.specs.Answers.{progressOf, groupOf, dueOf, checkedOf};
 
 // How far a plan is checked: the place reached and the carriages so far, or the ground of its
@@ -25,20 +24,6 @@ ghost use Rattle.plan.specs.Answers.{progressOf, groupOf, dueOf, checked
 pub enum Progress {
     Reached { at: usize, carriages: usize },
     Stopped(PlanGround),
-}
-
-// The set of the servers on a path.
-fn set_of(servers: &[u8]) -> u8
-    ensures { λ r. ⌜ r ≡ serversOf (now (servers .entry)) ⌝ }
-{
-    let mut set: u8 = 0;
-    let mut left = servers.len();
-    while 0 < left {
-        let at = left - 1;
-        set = sets::union(sets::single(servers[at]), set);
-        left = at;
-    }
-    set
 }
 
 // The next `count` routes: each is due, keeps the rules on its own, comes from one of the sources
@@ -74,7 +59,7 @@ fn check_group(
         if servers.len() == 0 {
             return Progress::Stopped(PlanGround::Route(at));
         }
-        let path = set_of(servers);
+        let path = route::set_of(servers);
         let others = sets::minus(path, sets::single(receiver));
         let shared = sets::meet(used, others);
         if shared != 0 {

@@ -1,4 +1,2 @@
-// The route plan: order of blocks, route check, block check, plan check.
+// The route plan: order of blocks, block check, plan check.
 pub mod check;
-pub mod command;
-pub mod route;

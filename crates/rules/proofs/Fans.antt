@@ -17,9 +17,11 @@ use Rattle.sets.proofs.Members.{meet-nothing}
 use Rattle.network.specs.Links.{Links}
 use Rattle.plan.specs.Members.{listFrom, members}
 use Rattle.plan.specs.Due.{Group, fan}
-use Rattle.plan.specs.Check.{Progress, reached, width, andThen, checkGroup, checkGroups}
+use Rattle.route.specs.Commands.{width}
+use Rattle.plan.specs.Check.{Progress, reached, andThen, checkGroup, checkGroups}
 use Rattle.rules.specs.Blocks.{Route, sourceOf, receiverOf, encodeRoutes, routesAt}
-use Rattle.rules.specs.Rules.{Each, IsRoute, AllSeparate, repeated, Fan}
+use Rattle.facts.specs.Lists.{Each}
+use Rattle.rules.specs.Rules.{IsRoute, AllSeparate, repeated, Fan}
 use Rattle.rules.proofs.Lists.{listed-in, length-members}
 use Rattle.rules.proofs.Spans.{Span, span-append, span-left, span-right}
 use Rattle.rules.proofs.Progress.{reached-same, then-forward}

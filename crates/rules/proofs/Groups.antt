@@ -22,11 +22,13 @@ use Rattle.sets.specs.Sets.{In, has, union, meet, minus, single}
 use Rattle.sets.proofs.Members.{meet-comm, minus-small, apart-union, apart-left, apart-right}
 use Rattle.network.specs.Links.{Links}
 use Rattle.plan.specs.Due.{Group}
-use Rattle.plan.specs.Route.{path, serversOf, isRoute}
-use Rattle.plan.specs.Check.{reached, width, isCut, isDue, routeAt, checkGroup}
+use Rattle.route.specs.Route.{path, serversOf, isRoute}
+use Rattle.route.specs.Commands.{width, isCut}
+use Rattle.plan.specs.Check.{reached, isDue, routeAt, checkGroup}
 use Rattle.plan.proofs.Groups.{whole-command}
 use Rattle.rules.specs.Blocks.{Route, sourceOf, receiverOf, operand, encodeRoutes, routesAt}
-use Rattle.rules.specs.Rules.{Each, IsRoute, Separate, AllSeparate}
+use Rattle.facts.specs.Lists.{Each}
+use Rattle.rules.specs.Rules.{IsRoute, Separate, AllSeparate}
 use Rattle.rules.proofs.Progress.{stopped-reached, reached-same, due-forward}
 use Rattle.rules.proofs.Routes.{route-rules, rules-route, operand-path, operand-long, servers-small, separate-apart, apart-separate}
 use Rattle.rules.proofs.Spans.{Span, span-append, span-left, span-right}

@@ -18,7 +18,8 @@ use Rattle.network.specs.Links.{Links}
 use Rattle.network.specs.Card.{Network, network, readCard}
 use Rattle.network.proofs.Main.{card-proper}
 use Rattle.plan.specs.Due.{due}
-use Rattle.plan.specs.Check.{Progress, reached, stopped, width, andThen, checkBlocks, checkEnd, Totals, totals, turned, totalsOf, checkOn, checkPlan}
+use Rattle.route.specs.Commands.{width}
+use Rattle.plan.specs.Check.{Progress, reached, stopped, andThen, checkBlocks, checkEnd, Totals, totals, turned, totalsOf, checkOn, checkPlan}
 use Rattle.plan.proofs.Groups.{whole-command}
 use Rattle.rules.specs.Blocks.{Block, encodeBlocks, encodePlan, decodePlan, planCarriages}
 use Rattle.rules.specs.Rules.{InOrder}

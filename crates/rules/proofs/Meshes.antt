@@ -18,10 +18,12 @@ use Rattle.sets.proofs.Members.{has-single, meet-nothing}
 use Rattle.network.specs.Links.{Links}
 use Rattle.plan.specs.Members.{members}
 use Rattle.plan.specs.Due.{Group, toOne, pairs}
-use Rattle.plan.specs.Route.{path}
-use Rattle.plan.specs.Check.{Progress, reached, routeAt, width, andThen, checkGroup, checkGroups}
+use Rattle.route.specs.Route.{path}
+use Rattle.route.specs.Commands.{width}
+use Rattle.plan.specs.Check.{Progress, reached, routeAt, andThen, checkGroup, checkGroups}
 use Rattle.rules.specs.Blocks.{Route, sourceOf, operand, encodeRoutes, routesAt, amongDue}
-use Rattle.rules.specs.Rules.{Each, IsRoute, sourcesFor, pairsOf, endsOf, Mesh}
+use Rattle.facts.specs.Lists.{Each}
+use Rattle.rules.specs.Rules.{IsRoute, sourcesFor, pairsOf, endsOf, Mesh}
 use Rattle.rules.proofs.Routes.{operand-long}
 use Rattle.rules.proofs.Lists.{length-members, members-in}
 use Rattle.rules.proofs.Spans.{Span, span-append, span-left, span-right}

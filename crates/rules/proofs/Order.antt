@@ -24,7 +24,8 @@ use Rattle.network.specs.Links.{Links}
 use Rattle.plan.specs.Members.{listFrom}
 use Rattle.plan.specs.Due.{DueBlock, isPart, blocksOf, blocksOfAll, due}
 use Rattle.rules.specs.Blocks.{Block}
-use Rattle.rules.specs.Rules.{Each, InBlock, InOrder}
+use Rattle.facts.specs.Lists.{Each}
+use Rattle.rules.specs.Rules.{InBlock, InOrder}
 use Rattle.rules.specs.Theorems.{Together}
 use Rattle.rules.proofs.Lists.{listed-in, in-listed, listed-split}
 

@@ -17,7 +17,8 @@ use lib.Dec.{eqb}
 use lib.ListN.{length, getD}
 use borrow.Author.Tests.{lt-ltb, le-ltb, eq-eqb, ne-eqb, eqb-true}
 use Rattle.refusal.specs.Refused.{Refused}
-use Rattle.plan.specs.Check.{Progress, reached, stopped, width, isCut, isDue, andThen, onward, Totals, totals, turned}
+use Rattle.route.specs.Commands.{width, isCut}
+use Rattle.plan.specs.Check.{Progress, reached, stopped, isDue, andThen, onward, Totals, totals, turned}
 
 -- 0 for totals, 1 for a refusal
 abbrev outcome : Totals → ℕ

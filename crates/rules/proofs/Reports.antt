@@ -19,10 +19,12 @@ use Rattle.sets.specs.Sets.{has, minus, within, full, size}
 use Rattle.sets.proofs.Members.{has-minus, has-full, within-in}
 use Rattle.network.specs.Links.{Links, linkedIn}
 use Rattle.plan.specs.Members.{members}
-use Rattle.plan.specs.Check.{reached, width, allLinked, isReport, checkReports}
+use Rattle.route.specs.Commands.{width}
+use Rattle.plan.specs.Check.{reached, allLinked, isReport, checkReports}
 use Rattle.plan.proofs.Groups.{whole-command}
 use Rattle.rules.specs.Blocks.{Report, encodeReports, reportsAt, reportFrom, reportCarriages}
-use Rattle.rules.specs.Rules.{Each, IsReport, reportsTo}
+use Rattle.facts.specs.Lists.{Each}
+use Rattle.rules.specs.Rules.{IsReport, reportsTo}
 use Rattle.rules.proofs.Lists.{length-members, members-in, in-members}
 use Rattle.rules.proofs.Spans.{Span}
 use Rattle.rules.proofs.Bytes.{span-cons, span-head, span-empty}

@@ -19,7 +19,7 @@ use Rattle.facts.proofs.Bools.{cases, clash, is-false, and-left, and-right, bot
 use Rattle.sets.specs.Sets.{In, Out, has, union, single, meet, minus}
 use Rattle.sets.proofs.Members.{has-union, has-minus, has-single, has-empty, union-small, minus-small, meet-apart, apart-meet}
 use Rattle.network.specs.Links.{Links, linkedIn}
-use Rattle.plan.specs.Route.{path, isFill, filled, serversOf, goesOn, isPath, isRoute}
+use Rattle.route.specs.Route.{path, isFill, filled, serversOf, goesOn, isPath, isRoute}
 use Rattle.rules.specs.Blocks.{Route, sourceOf, receiverOf, operand}
 use Rattle.rules.specs.Rules.{IsRoute, Separate}
 

@@ -19,11 +19,13 @@ use Rattle.sets.specs.Sets.{minus, within, full, size}
 use Rattle.network.specs.Links.{Links}
 use Rattle.plan.specs.Members.{members}
 use Rattle.plan.specs.Due.{DueBlock, Group, fan, pairs, routesDue}
-use Rattle.plan.specs.Check.{Progress, reached, width, isCut, andThen, onward, checkGroups, checkReports, checkBlock, checkBlocks}
+use Rattle.route.specs.Commands.{width, isCut}
+use Rattle.plan.specs.Check.{Progress, reached, andThen, onward, checkGroups, checkReports, checkBlock, checkBlocks}
 use Rattle.plan.proofs.Groups.{whole-command}
 use Rattle.plan.proofs.Joins.{groups-append}
 use Rattle.rules.specs.Blocks.{Route, Report, Block, encodeRoutes, encodeReports, encodeBlock, encodeBlocks, routesAt, reportsAt, inwardDue, amongDue, outwardDue, decodeBlock, decodeBlocks, lengthOf, carriageOf, reportCarriages, carriagesOf, planCarriages}
-use Rattle.rules.specs.Rules.{Each, Fan, Mesh, IsReport, reportsTo, InBlock, InOrder}
+use Rattle.facts.specs.Lists.{Each}
+use Rattle.rules.specs.Rules.{Fan, Mesh, IsReport, reportsTo, InBlock, InOrder}
 use Rattle.rules.proofs.Spans.{Span, span-append, span-left, span-right}
 use Rattle.rules.proofs.Groups.{routes-length, encode-long}
 use Rattle.rules.proofs.Fans.{fan-forward, fan-backward}

@@ -9,7 +9,7 @@ use lib.ListN.{length, getD, take, drop, replicate}
 use Rattle.sets.specs.Sets.{minus, full, size}
 use Rattle.plan.specs.Members.{members}
 use Rattle.plan.specs.Due.{due}
-use Rattle.plan.specs.Route.{path}
+use Rattle.route.specs.Route.{path}
 use Rattle.plan.specs.Check.{routeAt}
 
 abbrev pub Route : Type 0

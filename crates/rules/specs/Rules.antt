@@ -3,18 +3,16 @@
 use mathlib.Core.Path.{_≡_}
 use mathlib.Core.Logic.{_⊎_}
 use mathlib.Core.Bool.{true, cond}
-use mathlib.Core.List.{List, [], _∷_, _++_, map, List·Memᴰ}
+use mathlib.Core.List.{List, [], _∷_, _++_, map}
 use Prim.Native.Nat.{ℕ, suc, _+_, _≤_, _<_}
 use lib.Dec.{eqb}
 use lib.ListN.{length, getD, replicate}
+use Rattle.facts.specs.Lists.{Each}
 use Rattle.sets.specs.Sets.{In, Out, has, minus, within, full, size}
 use Rattle.network.specs.Links.{Links, linkedIn}
 use Rattle.plan.specs.Members.{members}
 use Rattle.plan.specs.Due.{DueBlock, due}
 use Rattle.rules.specs.Blocks.{Route, sourceOf, receiverOf, Report, Block, encodePlan}
-
-abbrev pub Each : {A : Type 0} → (A → Type 0) → List A → Type 0
-Each {A} P l = (a : A) → List·Memᴰ a l → P a
 
 -- "It has at least two servers, none twice and none in F, each linked to the next." Its operand is eight bytes.
 pub record IsRoute (n : ℕ) (links : Links) (F : ℕ) (p : Route) : Type 0 where

@@ -15,7 +15,8 @@ use Rattle.network.specs.Card.{network, readCard}
 use Rattle.plan.specs.Due.{due}
 use Rattle.plan.specs.Check.{totals, checkPlan}
 use Rattle.rules.specs.Blocks.{Block, encodePlan, decodePlan, planCarriages}
-use Rattle.rules.specs.Rules.{Each, InOrder, MeetsRules}
+use Rattle.facts.specs.Lists.{Each}
+use Rattle.rules.specs.Rules.{InOrder, MeetsRules}
 
 abbrev pub Accepted : List ℕ → List ℕ → Type 0
 Accepted card s = (blocks carriages : ℕ) × (checkPlan card s ≡ totals blocks carriages)

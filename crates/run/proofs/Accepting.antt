@@ -13,7 +13,8 @@ use Rattle.network.specs.Card.{network, readCard}
 use Rattle.network.proofs.Main.{card-proper}
 use Rattle.plan.specs.Due.{DueBlock, due}
 use Rattle.rules.specs.Blocks.{Route, Block, encodeRoutes, encodeReports, encodeBlock, encodeBlocks, encodePlan, decodeBlock, lengthOf, decodeBlocks, decodePlan}
-use Rattle.rules.specs.Rules.{Each, IsRoute, reportsTo, InBlock, InOrder}
+use Rattle.facts.specs.Lists.{Each}
+use Rattle.rules.specs.Rules.{IsRoute, reportsTo, InBlock, InOrder}
 use Rattle.rules.specs.Theorems.{Accepted}
 use Rattle.rules.proofs.Lists.{members-in}
 use Rattle.rules.proofs.Groups.{encode-long}

@@ -21,13 +21,13 @@ use Rattle.plan.proofs.Plans.{with-links}
 use Rattle.rules.specs.Blocks.{decodeBlocks, decodePlan}
 use Rattle.rules.proofs.Whole.{decode-length}
 use Rattle.rules.proofs.Main.{totalled}
-use Rattle.run.specs.Steps.{held, values, runBlocks}
-use Rattle.run.specs.Run.{checkCall, runOn, runPlan, decided, written, afterAnswer, lentAfter}
+use Rattle.steps.specs.Steps.{held, values, runBlocks}
+use Rattle.steps.specs.Run.{checkCall, runOn, runPlan, decided, written, afterAnswer, lentAfter}
 use Rattle.run.specs.Openings.{Runnable}
 use Rattle.run.specs.Answers.{ranOf, Answered}
 use Rattle.run.specs.declared.call.Ran.{Ran}
 use Rattle.run.proofs.Accepting.{accepted-runnable}
-use Rattle.run.proofs.Decides.{demand}
+use Rattle.steps.proofs.Decides.{demand}
 
 -- the network that the card reader's answer gives, and its accepted plan
 module _ (card plan : List ℕ) (n f : ℕ) (before links : Links) (e : headOf (readCard card) ≡ head n f) (l : links ≡ linksAfter (readCard card) before) where

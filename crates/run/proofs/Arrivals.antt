@@ -13,13 +13,13 @@ use borrow.Author.Tests.{ltb-true, ltb-false}
 use Rattle.facts.proofs.Bools.{cases, by-cond}
 use Rattle.sets.specs.Sets.{has}
 use Rattle.rules.specs.Blocks.{Carriage}
-use Rattle.rules.specs.Rules.{Each}
+use Rattle.facts.specs.Lists.{Each}
 use Rattle.rules.proofs.Groups.{each-cons}
-use Rattle.run.specs.Hearing.{hit, message, brought, heard, all, common, against}
-use Rattle.run.specs.Steps.{held, values, valuesFrom}
-use Rattle.run.specs.Speaking.{bitOf, workOf, bitsOf, worksOf, settled}
-use Rattle.run.proofs.Eight.{values-at, values-long}
-use Rattle.run.proofs.Same.{message-small}
+use Rattle.steps.specs.Hearing.{hit, message, brought, heard, all, common}
+use Rattle.steps.specs.Steps.{held, values, valuesFrom}
+use Rattle.run.specs.Speaking.{bitOf, workOf, bitsOf, worksOf, settled, against}
+use Rattle.steps.proofs.Eight.{values-at, values-long}
+use Rattle.steps.proofs.Same.{message-small}
 
 settled-cons : (x : ℕ) (xs : List ℕ) → x < 3 → common (x ∷ xs) ≡ settled (against 0 (x ∷ xs)) (against 1 (x ∷ xs))
 unfolding common settled against all

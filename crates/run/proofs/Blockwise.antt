@@ -14,9 +14,9 @@ use Rattle.plan.specs.Members.{members}
 use Rattle.plan.proofs.Cuts.{full-few}
 use Rattle.plan.proofs.Groups.{part-rest}
 use Rattle.rules.specs.Blocks.{Report, Block, carriageOf, reportFrom, reportCarriages, carriagesOf, decodeBlock, lengthOf, decodeBlocks}
-use Rattle.rules.specs.Rules.{Each}
+use Rattle.facts.specs.Lists.{Each}
 use Rattle.rules.proofs.Lists.{length-members}
-use Rattle.run.specs.Steps.{Values, step1, gather, compare, step5, step6, runBlock, runBlocks}
+use Rattle.steps.specs.Steps.{Values, step1, gather, compare, step5, step6, runBlock, runBlocks}
 use Rattle.run.specs.Speaking.{bitsOf, worksOf}
 use Rattle.run.specs.Openings.{ReportOf, Readable, Runnable, Opens, Ready, blockAt}
 use Rattle.run.specs.declared.block.Opening.{Opening}

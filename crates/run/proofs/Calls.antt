@@ -18,8 +18,8 @@ use Rattle.sets.specs.Sets.{within, full, size}
 use Rattle.plan.specs.Check.{Totals, turned}
 use Rattle.plan.proofs.Cuts.{full-few}
 use Rattle.rules.specs.Blocks.{Block}
-use Rattle.run.specs.Steps.{Values, held, values, runBlocks}
-use Rattle.run.specs.Run.{areBits, checkCall, decided}
+use Rattle.steps.specs.Steps.{Values, held, values, runBlocks}
+use Rattle.steps.specs.Run.{areBits, checkCall, decided}
 
 module _ (n f : ℕ) (inputs : List ℕ) (X : ℕ) (lent : List ℕ) (answer : Totals) where
   pub refuse-length : (length inputs ≡ n → ⊥) → turned (call 12) ≡ checkCall n f inputs X lent answer

@@ -18,13 +18,13 @@ use lib.Dec.{eqb}
 use borrow.Author.Tests.{lt-ltb, le-ltb}
 use Rattle.facts.proofs.Bools.{cases}
 use Rattle.sets.specs.Sets.{has}
-use Rattle.plan.specs.Route.{path}
+use Rattle.route.specs.Route.{path}
 use Rattle.plan.specs.Check.{routeAt}
-use Rattle.plan.proofs.Paths.{path-part}
+use Rattle.route.proofs.Paths.{path-part}
 use Rattle.plan.proofs.Groups.{part-rest}
 use Rattle.rules.specs.Blocks.{Carriage, carriageOf, routesAt}
-use Rattle.rules.specs.Rules.{Each}
-use Rattle.run.specs.Hearing.{hit, message, brought, heard}
+use Rattle.facts.specs.Lists.{Each}
+use Rattle.steps.specs.Hearing.{hit, message, brought, heard}
 use Rattle.run.specs.Speaking.{Adds, Speaks}
 use Rattle.run.specs.declared.carriage.Against.{Against}
 use Rattle.run.specs.Openings.{Servers}

@@ -17,10 +17,11 @@ use borrow.Author.Tests.{lt-ltb, le-ltb, eq-eqb, ne-eqb, eqb-true, eqb-false, lt
 use Rattle.facts.proofs.Bools.{cases, and-left, and-right}
 use Rattle.sets.specs.Sets.{has, single, union}
 use Rattle.sets.proofs.Members.{has-empty, has-union, has-single}
-use Rattle.run.specs.Steps.{held, valuesFrom, values}
-use Rattle.run.specs.Run.{areBits, decided}
+use Rattle.steps.specs.Steps.{held, valuesFrom, values}
+use Rattle.steps.specs.Run.{areBits, decided}
 use Rattle.run.specs.Speaking.{bitOf, workOf, bitsOf, worksOf}
-use Rattle.run.proofs.Eight.{values-long, values-at, values-ext}
+use Rattle.steps.proofs.Eight.{values-long, values-at, values-ext}
+use Rattle.steps.proofs.Decides.{bits-at}
 
 -- the inputs are bits
 
@@ -42,13 +43,6 @@ module _ (s : List ℕ) (i : ℕ) (so : areBits (drop i s) ≡ areBits s) where
     bits-go l = let t = lt-ltb (getD s i 0) 2 (omega arith) in rw t at now
 
 -- the inputs are the values
-
--- an input is a bit
-pub bits-at : (l : List ℕ) → areBits l ≡ true → (j : ℕ) → getD l j 0 < 2
-unfolding areBits
-bits-at [] e j = omega arith
-bits-at (b ∷ bs) e zero = ltb-true b 2 (and-left (ltb b 2) (areBits bs) e)
-bits-at (b ∷ bs) e (suc j) = bits-at bs (and-right (ltb b 2) (areBits bs) e) j
 
 bit-is : (v j x : ℕ) → x < 2 → has v j ≡ eqb x 1 → bitOf v j ≡ x
 unfolding bitOf

@@ -13,7 +13,7 @@ use lib.ListN.{length, getD}
 use Rattle.sets.specs.Sets.{size}
 use Rattle.sets.proofs.Counts.{size-le}
 use Rattle.rules.specs.Blocks.{routesAt, reportsAt, inwardDue, amongDue, outwardDue, decodeBlock, lengthOf}
-use Rattle.rules.specs.Rules.{Each}
+use Rattle.facts.specs.Lists.{Each}
 use Rattle.rules.proofs.Groups.{routes-length}
 use Rattle.rules.proofs.Reports.{reports-length}
 use Rattle.run.specs.declared.block.Opening.{Opening}

@@ -21,10 +21,10 @@ use Rattle.sets.proofs.LowestMember.{lowest-in}
 use Rattle.plan.specs.Members.{members}
 use Rattle.plan.proofs.Lowests.{members-none, members-then}
 use Rattle.rules.specs.Blocks.{Carriage, reportFrom, reportsAt, reportCarriages}
-use Rattle.rules.specs.Rules.{Each}
+use Rattle.facts.specs.Lists.{Each}
 use Rattle.rules.proofs.Lists.{length-members}
-use Rattle.run.specs.Hearing.{hit, message, brought, heard, reported}
-use Rattle.run.specs.Speaking.{Adds, Speaks}
+use Rattle.steps.specs.Hearing.{hit, message, brought, heard}
+use Rattle.run.specs.Speaking.{Adds, Speaks, reported}
 use Rattle.run.specs.Openings.{ReportOf}
 use Rattle.run.specs.declared.carriage.Against.{Against}
 use Rattle.run.proofs.Speaking.{adds-none, adds-then, adds-speaks}

@@ -15,8 +15,8 @@ use borrow.Author.Tests.{lt-ltb}
 use Rattle.facts.proofs.Bools.{cases}
 use Rattle.sets.specs.Sets.{has, single, union}
 use Rattle.sets.proofs.Members.{has-union, has-single, has-empty}
-use Rattle.run.specs.Hearing.{all, against}
-use Rattle.run.specs.Speaking.{Adds, Speaks}
+use Rattle.steps.specs.Hearing.{all}
+use Rattle.run.specs.Speaking.{Adds, Speaks, against}
 use Rattle.run.specs.declared.carriage.Against.{Against}
 
 or-assoc : (a b c : Bool) → ((a || b) || c) ≡ (a || (b || c))

@@ -13,13 +13,13 @@ use Rattle.facts.proofs.Bools.{cases}
 use Rattle.sets.specs.Sets.{has, union, meet, minus, full}
 use Rattle.sets.proofs.Members.{has-union, has-meet, has-minus}
 use Rattle.rules.specs.Blocks.{Carriage, routesAt, reportsAt, carriageOf, reportCarriages}
-use Rattle.run.specs.Hearing.{heard, all, common, against}
-use Rattle.run.specs.Steps.{held, values, step1, gather, compare, step5, step6}
-use Rattle.run.specs.Speaking.{bitOf, workOf, bitsOf, worksOf, replaced, alike, settled, Speaks}
+use Rattle.steps.specs.Hearing.{heard, all, common}
+use Rattle.steps.specs.Steps.{held, values, step1, gather, compare, step5, step6}
+use Rattle.run.specs.Speaking.{bitOf, workOf, bitsOf, worksOf, replaced, alike, settled, Speaks, against}
 use Rattle.run.specs.declared.carriage.Against.{Against}
 use Rattle.run.specs.declared.block.Opening.{Opening}
 use Rattle.run.specs.Openings.{Ready, blockAt}
-use Rattle.run.proofs.Eight.{values-at, values-ext}
+use Rattle.steps.proofs.Eight.{values-at, values-ext}
 use Rattle.run.proofs.Arrivals.{common-settled, heard-small, bits-small, works-small}
 use Rattle.run.proofs.Placed.{block-inward, block-among, block-outward, block-reports}
 

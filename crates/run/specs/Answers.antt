@@ -6,10 +6,10 @@ use Rattle.refusal.specs.Refused.{refusalOf}
 use Rattle.network.specs.Links.{Links}
 use Rattle.network.specs.Card.{network, readCard}
 use Rattle.plan.specs.Check.{Totals, totals, turned}
-use Rattle.run.specs.Steps
+use Rattle.steps.specs.Steps
 use Rattle.run.specs.Speaking.{bitsOf, worksOf}
-use Rattle.run.specs.Run.{runPlan, lentAfter}
-use Rattle.run.specs.Demand.{Agreed}
+use Rattle.steps.specs.Run.{runPlan, lentAfter}
+use Rattle.steps.specs.Demand.{Agreed}
 use Rattle.run.specs.declared.values.Values as Code
 use Rattle.run.specs.declared.call.Ran.{Ran}
 

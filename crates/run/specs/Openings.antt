@@ -8,7 +8,7 @@ use Prim.Native.Nat.{ℕ, zero, suc, _+_, _≤_, _<_}
 use lib.ListN.{length, getD, drop}
 use Rattle.sets.specs.Sets.{size}
 use Rattle.rules.specs.Blocks.{Route, Block, inwardDue, amongDue, outwardDue, decodeBlock, lengthOf, Report}
-use Rattle.rules.specs.Rules.{Each}
+use Rattle.facts.specs.Lists.{Each}
 use Rattle.run.specs.declared.block.Opening.{Opening}
 
 -- at least two, each one of the eight that there can be

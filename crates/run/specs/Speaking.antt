@@ -4,16 +4,18 @@
 --     workOf s o i     == the t of server i where s are the servers that are sure and o those of them with 1; 2 for one that is not sure
 --     replaced o s n   == the members of n in s, and of o outside it
 --     alike z o        == the servers whose arrivals are alike and 0 or 1, where z have one that is not 0 and o one that is not 1
+--     against x l     <-> some arrival of l is not x
+--     reported ..      == what the reports of the servers of a list bring
 --     Adds a hears b   <-> b is a with what each server i hears, hears i
 --     Speaks hears a   <-> a is what each server i hears, and nothing else
 --     settled z o      == the common value of arrivals, where z says that some is not 0 and o that some is not 1
 use mathlib.Core.Path.{_≡_}
-use mathlib.Core.Bool.{Bool, cond, _||_}
-use mathlib.Core.List.{List}
-use Prim.Native.Nat.{ℕ}
+use mathlib.Core.Bool.{Bool, cond, not, _||_}
+use mathlib.Core.List.{List, [], _∷_}
+use Prim.Native.Nat.{ℕ, suc}
 use Rattle.sets.specs.Sets.{has, union, meet, minus}
-use Rattle.run.specs.Hearing.{against}
-use Rattle.run.specs.Steps.{values}
+use Rattle.steps.specs.Hearing.{message, all}
+use Rattle.steps.specs.Steps.{values}
 use Rattle.run.specs.declared.carriage.Against.{Against}
 
 unfoldable pub bitOf : ℕ → ℕ → ℕ
@@ -35,6 +37,15 @@ replaced old inside new = union (minus old inside) (meet new inside)
 
 unfoldable pub alike : ℕ → ℕ → ℕ
 alike z o = minus (union z o) (meet z o)
+
+-- some arrival of l is not x
+unfoldable pub against : ℕ → List ℕ → Bool
+against x l = not (all x l)
+
+-- what the reports of the servers of a list bring; the first has number k
+unfoldable pub reported : ℕ → List ℕ → ℕ → (ℕ → ℕ) → List ℕ → List ℕ
+reported X table k held [] = []
+reported X table k held (m ∷ ms) = cond (has X m) (message table k) (held m) ∷ reported X table (suc k) held ms
 
 pub record Adds (a : Against) (hears : ℕ → List ℕ) (b : Against) : Type 0 where
   pub zero : (i : ℕ) → has (b .zero) i ≡ (has (a .zero) i || against 0 (hears i))

@@ -4,7 +4,7 @@ ghost use mathlib.Core.Path.{_≡_};
 ghost use Prim.Native.Nat.{_+_, _*_, _≤_, _<_};
 ghost use lib.ListN.{length};
 ghost use Rattle.sets.specs.Sets.{size, lowest, TableOf};
-ghost use Rattle.run.specs.Steps.{runBlock};
+ghost use Rattle.steps.specs.Steps.{runBlock};
 ghost use Rattle.run.specs.Openings.{Opens, Ready, blockAt};
 ghost use Rattle.run.specs.Answers.{valuesOf};
 

@@ -7,12 +7,12 @@ ghost use lib.Dec.{eqb};
 ghost use lib.ListN.{length, getD, take};
 ghost use Rattle.sets.specs.Sets.{has, lowest, TableOf};
 ghost use Rattle.plan.specs.Members.{members};
-ghost use Rattle.plan.specs.Route.{path};
+ghost use Rattle.route.specs.Route.{path};
 ghost use Rattle.rules.specs.Blocks.{routesAt, reportsAt, carriageOf, reportCarriages};
-ghost use Rattle.rules.specs.Rules.{Each};
-ghost use Rattle.run.specs.Hearing.{hit, message, heard, reported};
-ghost use Rattle.run.specs.Steps.{held};
-ghost use Rattle.run.specs.Speaking.{bitOf, workOf, bitsOf, worksOf, Adds, Speaks};
+ghost use Rattle.facts.specs.Lists.{Each};
+ghost use Rattle.steps.specs.Hearing.{hit, message, heard};
+ghost use Rattle.steps.specs.Steps.{held};
+ghost use Rattle.run.specs.Speaking.{bitOf, workOf, bitsOf, worksOf, Adds, Speaks, reported};
 ghost use Rattle.run.specs.Openings.{Servers, ReportOf};
 
 // What the arrivals of a step speak against, server by server.

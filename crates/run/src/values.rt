@@ -9,7 +9,7 @@ ghost use mathlib.Core.List.{map};
 ghost use Prim.Native.Nat.{ℕ, _+_, _≤_};
 ghost use Rattle.sets.specs.Sets.{has, minus, full, lowest, TableOf};
 ghost use Rattle.rules.specs.Blocks.{carriageOf, reportCarriages};
-ghost use Rattle.run.specs.Steps.{values, step1, gather, compare, step5, step6};
+ghost use Rattle.steps.specs.Steps.{values, step1, gather, compare, step5, step6};
 ghost use Rattle.run.specs.Speaking.{workOf, bitsOf, worksOf, replaced, alike, settled};
 ghost use Rattle.run.specs.Openings.{Ready, blockAt};
 

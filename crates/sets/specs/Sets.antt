@@ -1,5 +1,6 @@
 -- Sets of servers. In a file, in code and in an answer a set is a number, server i standing for 2^i; in a theorem it is a test.
 --     Set         == a test on servers
+--     Edges       == a test on pairs of servers
 --     In p i     <-> i is in p
 --     has s i     == i is in the set that the number s stands for
 --     single i    == the set of server i alone
@@ -18,6 +19,10 @@ use lib.ListN.{length, getD}
 
 abbrev pub Set : Type 0
 Set = ℕ → Bool
+
+-- the links of a network in a theorem: a test on pairs of servers
+abbrev pub Edges : Type 0
+Edges = ℕ → ℕ → Bool
 
 abbrev pub In : Set → ℕ → Type 0
 In p i = p i ≡ true

@@ -1,8 +1,9 @@
--- Every row of the table holds: one test, computed over the table as a whole, and the lemma that carries it to each row.
+-- Every row of the table holds: one test, computed row by row over the table as a whole, and the lemma that carries it to each row.
 -- Assumes nothing.
 use mathlib.Core.Path.{_≡_, refl, ap₂}
+use mathlib.Core.Logic.{⊎-elim}
 use mathlib.Core.Bool.{Bool, true, false, _&&_}
-use mathlib.Core.List.{List, [], _∷_, List·Memᴰ, List·Memᴰ·head, List·Memᴰ·tail}
+use mathlib.Core.List.{List, [], _∷_, List·Memᴰ, List·Memᴰ·cases-cons}
 use Prim.Native.Nat.{ℕ}
 use lib.Dec.{eqb}
 use borrow.Author.Tests.{eqb-true}
@@ -13,13 +14,14 @@ use Rattle.network.specs.Card.{headFits, linkFits, headAt, linkAt, endAt, stepA
 use Rattle.network.specs.Split.{someBelow, incoming, held, rest, isSplit, isBad, badAt, firstFrom, badWithSides, badWithFaults, firstBad, splitTest}
 use Rattle.plan.specs.Members.{listFrom, members}
 use Rattle.plan.specs.Due.{isPart, due, fan, toOne, pairs, routesDue}
-use Rattle.plan.specs.Route.{path, isFill, filled, serversOf, goesOn, isPath, isRoute}
-use Rattle.plan.specs.Check.{width, isCut, isDue, routeAt, checkGroup, checkGroups, checkReports, checkBlock, checkBlocks, checkEnd, checkOn, checkPlan}
+use Rattle.route.specs.Route.{path, isFill, filled, serversOf, goesOn, isPath, isRoute}
+use Rattle.route.specs.Commands.{width, isCut}
+use Rattle.plan.specs.Check.{isDue, routeAt, checkGroup, checkGroups, allLinked, isReport, checkReports, checkBlock, checkBlocks, checkEnd, checkOn, checkPlan}
 use Rattle.rules.specs.Blocks.{routesAt, reportsAt, inwardDue, amongDue, outwardDue, decodeBlock, lengthOf, decodeBlocks, decodePlan, reportCarriages, carriagesOf}
-use Rattle.run.specs.Hearing.{hit, message, brought, heard, all, common}
-use Rattle.run.specs.Steps.{valuesFrom, values, step1, gather, compare, step5, step6, runBlock, runBlocks}
-use Rattle.run.specs.Run.{areBits, checkCall, runOn, runPlan, decided, written, lentAfter}
-use Rattle.table.specs.Rows.{Row, Holds, given, stated, table}
+use Rattle.steps.specs.Hearing.{hit, message, brought, heard, all, common}
+use Rattle.steps.specs.Steps.{valuesFrom, values, step1, gather, compare, step5, step6, runBlock, runBlocks}
+use Rattle.steps.specs.Run.{areBits, checkCall, runOn, runPlan, decided, written, lentAfter}
+use Rattle.table.specs.Rows.{Row, Holds, given, table}
 
 sameList : List ℕ → List ℕ → Bool
 sameList [] [] = true
@@ -35,21 +37,27 @@ sameList-true (x ∷ xs) [] e = clash false e refl
 sameList-true (x ∷ xs) (y ∷ ys) e =
     ap₂ (λ (z : ℕ) (zs : List ℕ). z ∷ zs) (eqb-true x y (and-left (eqb x y) (sameList xs ys) e)) (sameList-true xs ys (and-right (eqb x y) (sameList xs ys) e))
 
-allHold : List Row → Bool
-allHold [] = true
-allHold (row ∷ rows) = sameList (given row) (stated row) && allHold rows
+test : Row → Bool
+test r = sameList (given (r .made)) (r .stated)
 
-allHold-each : (rows : List Row) → allHold rows ≡ true → (row : Row) → List·Memᴰ row rows → Holds row
-unfolding allHold
-allHold-each [] e row m = elim m [ ]
-allHold-each (first ∷ rows) e row (List·Memᴰ·head p) =
-    rw p (sameList-true (given first) (stated first) (and-left (sameList (given first) (stated first)) (allHold rows) e))
-allHold-each (first ∷ rows) e row (List·Memᴰ·tail m) =
-    allHold-each rows (and-right (sameList (given first) (stated first)) (allHold rows) e) row m
+-- every row of the list passes the test
+abbrev Passing : List Row → Type 0
+Passing [] = Unit
+Passing (r ∷ rs) = (test r ≡ true) × Passing rs
 
-computed : allHold table ≡ true
-unfolding allHold sameList has single union meet minus within full count size firstIn lowest noLinks linkedIn withLink headFits linkFits headAt linkAt endAt stepAt commands readCard someBelow incoming held rest isSplit isBad badAt firstFrom badWithSides badWithFaults firstBad splitTest listFrom members isPart due fan toOne pairs routesDue path isFill filled serversOf goesOn isPath isRoute width isCut isDue routeAt checkGroup checkGroups checkReports checkBlock checkBlocks checkEnd checkOn checkPlan routesAt reportsAt inwardDue amongDue outwardDue decodeBlock lengthOf decodeBlocks decodePlan reportCarriages carriagesOf hit message brought heard all common valuesFrom values step1 gather compare step5 step6 runBlock runBlocks areBits checkCall runOn runPlan decided written lentAfter
-computed = refl
+passing-each : (rs : List Row) → Passing rs → (r : Row) → List·Memᴰ r rs → Holds r
+unfolding test
+passing-each [] h r m = elim m [ ]
+passing-each (first ∷ rs) h r m =
+    ⊎-elim
+    (λ (q : r ≡ first). rw q (sameList-true (given (first .made)) (first .stated) (h .0)))
+    (λ (o : List·Memᴰ r rs). passing-each rs (h .1) r o)
+    (List·Memᴰ·cases-cons m)
 
-pub table-holds : (row : Row) → List·Memᴰ row table → Holds row
-table-holds row m = allHold-each table computed row m
+-- one `refl` a row, in the table's order: of a row that fails the checker prints the name
+computed : Passing table
+unfolding test sameList has single union meet minus within full count size firstIn lowest noLinks linkedIn withLink headFits linkFits headAt linkAt endAt stepAt commands readCard someBelow incoming held rest isSplit isBad badAt firstFrom badWithSides badWithFaults firstBad splitTest listFrom members isPart due fan toOne pairs routesDue path isFill filled serversOf goesOn isPath isRoute width isCut isDue routeAt checkGroup checkGroups allLinked isReport checkReports checkBlock checkBlocks checkEnd checkOn checkPlan routesAt reportsAt inwardDue amongDue outwardDue decodeBlock lengthOf decodeBlocks decodePlan reportCarriages carriagesOf hit message brought heard all common valuesFrom values step1 gather compare step5 step6 runBlock runBlocks areBits checkCall runOn runPlan decided written lentAfter
+computed = (refl, (refl, (refl, (refl, (refl, (refl, (refl, (refl, (refl, (refl, (refl, (refl, (refl, (refl, (refl, (refl, (refl, (refl, (refl, (refl, (refl, (refl, (refl, (refl, (refl, (refl, (refl, (refl, (refl, (refl, (refl, (refl, (refl, (refl, (refl, (refl, (refl, (refl, (refl, (refl, tt))))))))))))))))))))))))))))))))))))))))
+
+pub table-holds : (r : Row) → List·Memᴰ r table → Holds r
+table-holds r m = passing-each table computed r m

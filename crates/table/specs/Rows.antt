@@ -1,15 +1,20 @@
 -- The table of small networks: each row is a call and the values that paper 01 says it gives.
 --     Holds row  <-> the definitions give those values
+--     KeepsAlone     P10 for every S of one server
 use mathlib.Core.Path.{_≡_}
-use mathlib.Core.List.{List, [], _∷_, _++_}
-use Prim.Native.Nat.{ℕ}
+use mathlib.Core.List.{List, [], _∷_, _++_, map, List·Memᴰ}
+use Prim.Native.Nat.{ℕ, _<_}
+use Prim.Native.String.{String}
 use Rattle.refusal.specs.Refused.{Refused, card, plan, call}
-use Rattle.network.specs.Card.{Head, head, turned, headOf, readCard}
+use Rattle.sets.specs.Sets.{size}
+use Rattle.network.specs.Links.{Links}
+use Rattle.network.specs.Card.{network, Head, head, turned, headOf, readCard}
 use Rattle.network.specs.Split.{Split, good, bad, unread, splitTest}
 use Rattle.plan.specs.Check
-use Rattle.rules.specs.Blocks.{Carriage}
-use Rattle.run.specs.Steps.{gather, compare}
-use Rattle.run.specs.Run.{runPlan, lentAfter}
+use Rattle.rules.specs.Blocks.{Carriage, Block, carriageOf, decodePlan}
+use Rattle.rules.specs.Theorems.{Accepted}
+use Rattle.steps.specs.Steps.{held, gather, compare}
+use Rattle.steps.specs.Run.{runPlan, lentAfter}
 
 -- what is at fault (0 card, 1 plan, 2 call), the number, and the place of a card's or a plan's
 abbrev pub refusedValues : Refused → List ℕ
@@ -33,34 +38,35 @@ abbrev pub totalsValues : Check.Totals → List ℕ
 totalsValues (Check.totals blocks carriages) = 1 ∷ blocks ∷ carriages ∷ []
 totalsValues (Check.turned r) = 0 ∷ refusedValues r
 
-pub data Row : Type 0 where
-  reads : (card : List ℕ) → (values : List ℕ) → Row
-  splits : (card : List ℕ) → (values : List ℕ) → Row
-  checks : (card plan : List ℕ) → (values : List ℕ) → Row
-  runs : (card plan inputs : List ℕ) → (faulty : ℕ) → (table lent : List ℕ) → (values after : List ℕ) → Row
-  gathers : (faulty : ℕ) → (table : List ℕ) → (carriages : List Carriage) → (receivers : ℕ) → (t : List ℕ) → (values : List ℕ) → Row
-  compares : (faulty : ℕ) → (table : List ℕ) → (carriages : List Carriage) → (quorum : ℕ) → (t : List ℕ) → (values : List ℕ) → Row
+-- a call of the library, or of one step
+pub data Call : Type 0 where
+  reads : (card : List ℕ) → Call
+  splits : (card : List ℕ) → Call
+  checks : (card plan : List ℕ) → Call
+  runs : (card plan inputs : List ℕ) → (faulty : ℕ) → (table lent : List ℕ) → Call
+  gathers : (faulty : ℕ) → (table : List ℕ) → (carriages : List Carriage) → (receivers : ℕ) → (t : List ℕ) → Call
+  compares : (faulty : ℕ) → (table : List ℕ) → (carriages : List Carriage) → (quorum : ℕ) → (t : List ℕ) → Call
 
--- the call's values by the definitions
-abbrev pub given : Row → List ℕ
-given (reads s values) = headValues (headOf (readCard s))
-given (splits s values) = splitValues (splitTest s)
-given (checks s p values) = totalsValues (Check.checkPlan s p)
-given (runs s p inputs faulty table lent values after) = totalsValues (runPlan s p inputs faulty lent) ++ lentAfter s p inputs faulty table lent
-given (gathers faulty table carriages receivers t values) = gather faulty table 0 carriages receivers t
-given (compares faulty table carriages quorum t values) = compare faulty table 0 carriages quorum t
+-- what it gives by the definitions; a run gives the lent bytes too
+abbrev pub given : Call → List ℕ
+given (reads s) = headValues (headOf (readCard s))
+given (splits s) = splitValues (splitTest s)
+given (checks s p) = totalsValues (Check.checkPlan s p)
+given (runs s p inputs faulty table lent) = totalsValues (runPlan s p inputs faulty lent) ++ lentAfter s p inputs faulty table lent
+given (gathers faulty table carriages receivers t) = gather faulty table 0 carriages receivers t
+given (compares faulty table carriages quorum t) = compare faulty table 0 carriages quorum t
 
--- the values that the row states
-abbrev pub stated : Row → List ℕ
-stated (reads s values) = values
-stated (splits s values) = values
-stated (checks s p values) = values
-stated (runs s p inputs faulty table lent values after) = values ++ after
-stated (gathers faulty table carriages receivers t values) = values
-stated (compares faulty table carriages quorum t values) = values
+-- `name` is what is printed of a row that does not hold
+pub record Row : Type 0 where
+  pub name : String
+  pub made : Call
+  pub stated : List ℕ
+
+abbrev pub row : String → Call → List ℕ → Row
+row name made stated = record { name = name; made = made; stated = stated }
 
 abbrev pub Holds : Row → Type 0
-Holds row = given row ≡ stated row
+Holds r = given (r .made) ≡ r .stated
 
 -- a link from u to each of the servers vs
 abbrev pub linksFrom : ℕ → List ℕ → List ℕ
@@ -81,36 +87,60 @@ P4-card =
     0x01 ∷ 0x04 ∷ 0x01
     ∷ (linksFrom 0 (1 ∷ 2 ∷ 3 ∷ []) ++ linksFrom 1 (0 ∷ 2 ∷ 3 ∷ []) ++ linksFrom 2 (0 ∷ 1 ∷ 3 ∷ []) ++ linksFrom 3 (0 ∷ 1 ∷ 2 ∷ []) ++ 0x03 ∷ [])
 
+abbrev pub opening : ℕ → ℕ → ℕ → List ℕ
+opening F A S = 0x10 ∷ F ∷ A ∷ S ∷ []
+
+-- for each pair a command with the route of these two servers
+abbrev pub direct : ℕ → List (ℕ × ℕ) → List ℕ
+direct command [] = []
+direct command (p ∷ ps) = command ∷ p .0 ∷ p .1 ∷ 0xff ∷ 0xff ∷ 0xff ∷ 0xff ∷ 0xff ∷ 0xff ∷ direct command ps
+
 abbrev pub P5-plan : List ℕ
 P5-plan =
-    0x10 ∷ 0x00 ∷ 0x01 ∷ 0x01
-    ∷ 0x13 ∷ 0x00 ∷ 0x01 ∷ 0xff ∷ 0xff ∷ 0xff ∷ 0xff ∷ 0xff ∷ 0xff
-    ∷ 0x15 ∷ []
+    opening 0x00 0x01 0x01 ++ direct 0x13 ((0, 1) ∷ []) ++ (0x15 ∷ [])
 
 abbrev pub P6-plan : List ℕ
 P6-plan =
-    0x10 ∷ 0x00 ∷ 0x02 ∷ 0x01
-    ∷ 0x13 ∷ 0x00 ∷ 0x01 ∷ 0xff ∷ 0xff ∷ 0xff ∷ 0xff ∷ 0xff ∷ 0xff
-    ∷ 0x15 ∷ []
+    opening 0x00 0x02 0x01 ++ direct 0x13 ((0, 1) ∷ []) ++ (0x15 ∷ [])
 
 -- the three blocks with an empty F on the network of P3
 abbrev pub P3-blocks : List ℕ
 P3-blocks =
-    0x10 ∷ 0x00 ∷ 0x06 ∷ 0x06
-    ∷ 0x12 ∷ 0x02 ∷ 0x01 ∷ 0xff ∷ 0xff ∷ 0xff ∷ 0xff ∷ 0xff ∷ 0xff
-    ∷ 0x12 ∷ 0x01 ∷ 0x02 ∷ 0xff ∷ 0xff ∷ 0xff ∷ 0xff ∷ 0xff ∷ 0xff
-    ∷ 0x13 ∷ 0x01 ∷ 0x00 ∷ 0xff ∷ 0xff ∷ 0xff ∷ 0xff ∷ 0xff ∷ 0xff
-    ∷ 0x13 ∷ 0x02 ∷ 0x00 ∷ 0xff ∷ 0xff ∷ 0xff ∷ 0xff ∷ 0xff ∷ 0xff
-    ∷ 0x10 ∷ 0x00 ∷ 0x03 ∷ 0x03
-    ∷ 0x12 ∷ 0x01 ∷ 0x00 ∷ 0xff ∷ 0xff ∷ 0xff ∷ 0xff ∷ 0xff ∷ 0xff
-    ∷ 0x12 ∷ 0x00 ∷ 0x01 ∷ 0xff ∷ 0xff ∷ 0xff ∷ 0xff ∷ 0xff ∷ 0xff
-    ∷ 0x13 ∷ 0x00 ∷ 0x02 ∷ 0xff ∷ 0xff ∷ 0xff ∷ 0xff ∷ 0xff ∷ 0xff
-    ∷ 0x13 ∷ 0x01 ∷ 0x02 ∷ 0xff ∷ 0xff ∷ 0xff ∷ 0xff ∷ 0xff ∷ 0xff
-    ∷ 0x10 ∷ 0x00 ∷ 0x05 ∷ 0x05
-    ∷ 0x12 ∷ 0x02 ∷ 0x00 ∷ 0xff ∷ 0xff ∷ 0xff ∷ 0xff ∷ 0xff ∷ 0xff
-    ∷ 0x12 ∷ 0x00 ∷ 0x02 ∷ 0xff ∷ 0xff ∷ 0xff ∷ 0xff ∷ 0xff ∷ 0xff
-    ∷ 0x13 ∷ 0x00 ∷ 0x01 ∷ 0xff ∷ 0xff ∷ 0xff ∷ 0xff ∷ 0xff ∷ 0xff
-    ∷ 0x13 ∷ 0x02 ∷ 0x01 ∷ 0xff ∷ 0xff ∷ 0xff ∷ 0xff ∷ 0xff ∷ 0xff ∷ []
+    opening 0x00 0x06 0x06 ++ direct 0x12 ((2, 1) ∷ (1, 2) ∷ []) ++ direct 0x13 ((1, 0) ∷ (2, 0) ∷ [])
+    ++ opening 0x00 0x03 0x03 ++ direct 0x12 ((1, 0) ∷ (0, 1) ∷ []) ++ direct 0x13 ((0, 2) ∷ (1, 2) ∷ [])
+    ++ opening 0x00 0x05 0x05 ++ direct 0x12 ((2, 0) ∷ (0, 2) ∷ []) ++ direct 0x13 ((0, 1) ∷ (2, 1) ∷ [])
+
+-- an accepted plan for the network of P4, f 1: 19 blocks
+abbrev pub P4-plan : List ℕ
+P4-plan =
+    opening 0x00 0x0e 0x0e ++ direct 0x12 ((2, 1) ∷ (3, 1) ∷ (1, 2) ∷ (3, 2) ∷ (1, 3) ∷ (2, 3) ∷ []) ++ direct 0x13 ((1, 0) ∷ (2, 0) ∷ [])
+    ++ opening 0x00 0x0c 0x0c ++ direct 0x12 ((3, 2) ∷ (2, 3) ∷ []) ++ direct 0x13 ((2, 0) ∷ (3, 0) ∷ (2, 1) ∷ (3, 1) ∷ [])
+    ++ opening 0x00 0x0a 0x0a ++ direct 0x12 ((3, 1) ∷ (1, 3) ∷ []) ++ direct 0x13 ((1, 0) ∷ (3, 0) ∷ (1, 2) ∷ (3, 2) ∷ [])
+    ++ opening 0x00 0x07 0x07 ++ direct 0x12 ((1, 0) ∷ (2, 0) ∷ (0, 1) ∷ (2, 1) ∷ (0, 2) ∷ (1, 2) ∷ []) ++ direct 0x13 ((2, 3) ∷ (1, 3) ∷ [])
+    ++ opening 0x00 0x09 0x09 ++ direct 0x12 ((3, 0) ∷ (0, 3) ∷ []) ++ direct 0x13 ((3, 1) ∷ (0, 1) ∷ (3, 2) ∷ (0, 2) ∷ [])
+    ++ opening 0x00 0x0b 0x09 ++ direct 0x12 ((3, 0) ∷ (0, 3) ∷ []) ++ direct 0x13 ((3, 1) ∷ (0, 1) ∷ (3, 2) ∷ (0, 2) ∷ [])
+    ++ opening 0x00 0x0d 0x09 ++ direct 0x12 ((3, 0) ∷ (0, 3) ∷ []) ++ direct 0x13 ((0, 1) ∷ (3, 1) ∷ (0, 2) ∷ (3, 2) ∷ [])
+    ++ opening 0x01 0x0c 0x0c ++ direct 0x12 ((3, 2) ∷ (2, 3) ∷ []) ++ direct 0x13 ((3, 1) ∷ (2, 1) ∷ []) ++ (0x14 ∷ 0x00 ∷ 0x0c ∷ [])
+    ++ opening 0x01 0x06 0x06 ++ direct 0x12 ((2, 1) ∷ (1, 2) ∷ []) ++ direct 0x13 ((2, 3) ∷ (1, 3) ∷ []) ++ (0x14 ∷ 0x00 ∷ 0x0a ∷ [])
+    ++ opening 0x01 0x0a 0x0a ++ direct 0x12 ((3, 1) ∷ (1, 3) ∷ []) ++ direct 0x13 ((3, 2) ∷ (1, 2) ∷ []) ++ (0x14 ∷ 0x00 ∷ 0x0c ∷ [])
+    ++ opening 0x02 0x0c 0x0c ++ direct 0x12 ((3, 2) ∷ (2, 3) ∷ []) ++ direct 0x13 ((3, 0) ∷ (2, 0) ∷ []) ++ (0x14 ∷ 0x01 ∷ 0x09 ∷ [])
+    ++ opening 0x02 0x05 0x05 ++ direct 0x12 ((2, 0) ∷ (0, 2) ∷ []) ++ direct 0x13 ((2, 3) ∷ (0, 3) ∷ []) ++ (0x14 ∷ 0x01 ∷ 0x05 ∷ [])
+    ++ opening 0x02 0x09 0x09 ++ direct 0x12 ((3, 0) ∷ (0, 3) ∷ []) ++ direct 0x13 ((0, 2) ∷ (3, 2) ∷ []) ++ (0x14 ∷ 0x01 ∷ 0x05 ∷ [])
+    ++ opening 0x04 0x0a 0x0a ++ direct 0x12 ((3, 1) ∷ (1, 3) ∷ []) ++ direct 0x13 ((1, 0) ∷ (3, 0) ∷ []) ++ (0x14 ∷ 0x02 ∷ 0x03 ∷ [])
+    ++ opening 0x04 0x03 0x03 ++ direct 0x12 ((1, 0) ∷ (0, 1) ∷ []) ++ direct 0x13 ((1, 3) ∷ (0, 3) ∷ []) ++ (0x14 ∷ 0x02 ∷ 0x0a ∷ [])
+    ++ opening 0x04 0x09 0x09 ++ direct 0x12 ((3, 0) ∷ (0, 3) ∷ []) ++ direct 0x13 ((3, 1) ∷ (0, 1) ∷ []) ++ (0x14 ∷ 0x02 ∷ 0x03 ∷ [])
+    ++ opening 0x08 0x06 0x06 ++ direct 0x12 ((2, 1) ∷ (1, 2) ∷ []) ++ direct 0x13 ((1, 0) ∷ (2, 0) ∷ []) ++ (0x14 ∷ 0x03 ∷ 0x03 ∷ [])
+    ++ opening 0x08 0x03 0x03 ++ direct 0x12 ((1, 0) ∷ (0, 1) ∷ []) ++ direct 0x13 ((1, 2) ∷ (0, 2) ∷ []) ++ (0x14 ∷ 0x03 ∷ 0x03 ∷ [])
+    ++ opening 0x08 0x05 0x05 ++ direct 0x12 ((2, 0) ∷ (0, 2) ∷ []) ++ direct 0x13 ((0, 1) ∷ (2, 1) ∷ []) ++ (0x14 ∷ 0x03 ∷ 0x06 ∷ [])
+    ++ (0x15 ∷ [])
+
+-- what faulty server 2 puts on its carriages; the table ends before the last of them
+abbrev pub P4-table : List ℕ
+P4-table =
+    0x00 ∷ 0x00 ∷ 0x03 ∷ 0xd6 ∷ 0xff ∷ 0x01 ∷ 0x02 ∷ 0x01 ∷ 0x02 ∷ 0x24 ∷ 0x01 ∷ 0x00 ∷ 0xa5 ∷ 0x01 ∷ 0x01 ∷ 0x02 ∷ 0xff ∷ 0xff ∷ 0x00 ∷ 0xff
+    ∷ 0x00 ∷ 0x01 ∷ 0x01 ∷ 0x01 ∷ 0xff ∷ 0x03 ∷ 0x01 ∷ 0x02 ∷ 0x00 ∷ 0x03 ∷ 0x00 ∷ 0x01 ∷ 0x02 ∷ 0x03 ∷ 0x03 ∷ 0x00 ∷ 0xff ∷ 0x02 ∷ 0x2e ∷ 0x03
+    ∷ 0x40 ∷ 0x02 ∷ 0x01 ∷ 0x03 ∷ 0xc9 ∷ 0x02 ∷ 0x00 ∷ 0xff ∷ 0x00 ∷ 0xff ∷ 0x01 ∷ 0xee ∷ 0x00 ∷ 0x01 ∷ 0xc7 ∷ 0x57 ∷ 0xff ∷ 0x00 ∷ 0x02 ∷ 0x01
+    ∷ 0x7a ∷ 0xff ∷ 0xff ∷ 0x30 ∷ 0xff ∷ 0x03 ∷ 0x68 ∷ 0x00 ∷ 0x01 ∷ 0x9f ∷ 0x03 ∷ 0x00 ∷ 0x88 ∷ 0xff ∷ 0x00 ∷ 0x00 ∷ 0x02 ∷ 0x00 ∷ 0xff ∷ []
 
 -- server 2 hears servers 0 and 1, by carriages 0 and 1
 abbrev pub two-carriages : List Carriage
@@ -118,80 +148,63 @@ two-carriages = record { receiver = 2; before = 0 ∷ [] } ∷ record { receiver
 
 abbrev pub table : List Row
 table =
-    -- P1: accepted, no bad split
-    reads P1-card (1 ∷ 2 ∷ 0 ∷ [])
-    ∷ splits P1-card (1 ∷ [])
-    -- P2: bad split F 0, L 1, C 0, R 2
-    ∷ splits P2-card (2 ∷ 0 ∷ 1 ∷ 0 ∷ 2 ∷ [])
-    -- P3: bad split F 1, L 2, C 0, R 4
-    ∷ splits P3-card (2 ∷ 1 ∷ 2 ∷ 0 ∷ 4 ∷ [])
-    -- P4: none
-    ∷ splits P4-card (1 ∷ [])
-    -- n 8 is read, 9 refused 5
-    ∷ reads (0x01 ∷ 0x08 ∷ 0x00 ∷ 0x03 ∷ []) (1 ∷ 8 ∷ 0 ∷ [])
-    ∷ reads (0x01 ∷ 0x09 ∷ 0x00 ∷ 0x03 ∷ []) (0 ∷ 0 ∷ 5 ∷ 0 ∷ [])
-    -- f 2 is read, 3 refused 5
-    ∷ reads (0x01 ∷ 0x08 ∷ 0x02 ∷ 0x03 ∷ []) (1 ∷ 8 ∷ 2 ∷ [])
-    ∷ reads (0x01 ∷ 0x08 ∷ 0x03 ∷ 0x03 ∷ []) (0 ∷ 0 ∷ 5 ∷ 0 ∷ [])
-    -- an empty card is refused 2 at place 0
-    ∷ reads [] (0 ∷ 0 ∷ 2 ∷ 0 ∷ [])
-    -- P5: accepted, 1 block, 1 carriage
-    ∷ checks P1-card P5-plan (1 ∷ 1 ∷ 1 ∷ [])
-    -- P6: refused 7 at place 4, since a 11 route is due
-    ∷ checks P1-card P6-plan (0 ∷ 1 ∷ 7 ∷ 4 ∷ [])
-    -- P7: both decide 1
-    ∷ runs P1-card P5-plan (1 ∷ 0 ∷ []) 0 [] (9 ∷ 9 ∷ []) (1 ∷ 1 ∷ 1 ∷ []) (1 ∷ 1 ∷ [])
-    -- later bytes of the lent buffer are untouched
-    ∷ runs P1-card P5-plan (0 ∷ 1 ∷ []) 0 [] (9 ∷ 9 ∷ 9 ∷ []) (1 ∷ 1 ∷ 1 ∷ []) (0 ∷ 0 ∷ 9 ∷ [])
-    -- P8: at f 1 the arrivals 0 and missing, of faulty server 1, come to 2
-    ∷ gathers 2 (0 ∷ []) two-carriages 4 (0 ∷ 0 ∷ 0 ∷ 2 ∷ 2 ∷ 2 ∷ 2 ∷ 2 ∷ []) (0 ∷ 0 ∷ 2 ∷ 2 ∷ 2 ∷ 2 ∷ 2 ∷ 2 ∷ [])
-    -- P9: at f 1 the arrivals 1 and 1 come to 1
-    ∷ gathers 0 [] two-carriages 4 (1 ∷ 1 ∷ 2 ∷ 2 ∷ 2 ∷ 2 ∷ 2 ∷ 2 ∷ []) (1 ∷ 1 ∷ 1 ∷ 2 ∷ 2 ∷ 2 ∷ 2 ∷ 2 ∷ [])
-    -- P10: with an S of one server step 3 keeps t
-    ∷ compares 0 [] [] 1 (1 ∷ 0 ∷ 2 ∷ 2 ∷ 2 ∷ 2 ∷ 2 ∷ 2 ∷ []) (1 ∷ 0 ∷ 2 ∷ 2 ∷ 2 ∷ 2 ∷ 2 ∷ 2 ∷ [])
-    -- a call refused 12, 13 and 14, in this order, changes no byte
-    ∷ runs P1-card P5-plan (1 ∷ []) 1 [] (9 ∷ []) (0 ∷ 2 ∷ 12 ∷ []) (9 ∷ [])
-    ∷ runs P1-card P5-plan (1 ∷ 2 ∷ []) 0 [] (9 ∷ 9 ∷ []) (0 ∷ 2 ∷ 12 ∷ []) (9 ∷ 9 ∷ [])
-    ∷ runs P1-card P5-plan (1 ∷ 0 ∷ []) 1 [] (9 ∷ []) (0 ∷ 2 ∷ 13 ∷ []) (9 ∷ [])
-    ∷ runs P1-card P5-plan (1 ∷ 0 ∷ []) 4 [] (9 ∷ 9 ∷ []) (0 ∷ 2 ∷ 13 ∷ []) (9 ∷ 9 ∷ [])
-    ∷ runs P1-card P5-plan (1 ∷ 0 ∷ []) 0 [] (9 ∷ []) (0 ∷ 2 ∷ 14 ∷ []) (9 ∷ [])
-    -- a refused plan comes before the call, and changes no byte
-    ∷ runs P1-card P6-plan (1 ∷ []) 1 [] (9 ∷ []) (0 ∷ 1 ∷ 7 ∷ 4 ∷ []) (9 ∷ [])
-    -- a second 11 route is due at f 1, and 13 is found: 7
-    ∷ checks P3-card
-    (0x10 ∷ 0x00 ∷ 0x01 ∷ 0x02
-    ∷ 0x11 ∷ 0x00 ∷ 0x01 ∷ 0xff ∷ 0xff ∷ 0xff ∷ 0xff ∷ 0xff ∷ 0xff
-    ∷ 0x13 ∷ 0x00 ∷ 0x02 ∷ 0x01 ∷ 0xff ∷ 0xff ∷ 0xff ∷ 0xff ∷ 0xff ∷ []) (0 ∷ 1 ∷ 7 ∷ 13 ∷ [])
-    -- operands cut off are 2 before 7: a 13 cut off where 11 is due, and where 10 is due
-    ∷ checks P1-card (0x10 ∷ 0x00 ∷ 0x02 ∷ 0x01 ∷ 0x13 ∷ 0x00 ∷ 0x01 ∷ []) (0 ∷ 1 ∷ 2 ∷ 4 ∷ [])
-    ∷ checks P1-card (0x13 ∷ 0x00 ∷ 0x01 ∷ []) (0 ∷ 1 ∷ 2 ∷ 0 ∷ [])
-    -- the 13 with its whole operand where 10 is due is 7
-    ∷ checks P1-card (0x13 ∷ 0x00 ∷ 0x01 ∷ 0xff ∷ 0xff ∷ 0xff ∷ 0xff ∷ 0xff ∷ 0xff ∷ []) (0 ∷ 1 ∷ 7 ∷ 0 ∷ [])
-    -- two routes to one receiver that begin at one server are 10 at the later one, of 13 and of 11
-    ∷ checks P4-card
-    (0x10 ∷ 0x00 ∷ 0x01 ∷ 0x01
-    ∷ 0x13 ∷ 0x00 ∷ 0x01 ∷ 0xff ∷ 0xff ∷ 0xff ∷ 0xff ∷ 0xff ∷ 0xff
-    ∷ 0x13 ∷ 0x00 ∷ 0x02 ∷ 0x01 ∷ 0xff ∷ 0xff ∷ 0xff ∷ 0xff ∷ 0xff ∷ []) (0 ∷ 1 ∷ 10 ∷ 13 ∷ [])
-    ∷ checks P4-card
-    (0x10 ∷ 0x00 ∷ 0x01 ∷ 0x02
-    ∷ 0x11 ∷ 0x00 ∷ 0x01 ∷ 0xff ∷ 0xff ∷ 0xff ∷ 0xff ∷ 0xff ∷ 0xff
-    ∷ 0x11 ∷ 0x00 ∷ 0x02 ∷ 0x01 ∷ 0xff ∷ 0xff ∷ 0xff ∷ 0xff ∷ 0xff ∷ []) (0 ∷ 1 ∷ 10 ∷ 13 ∷ [])
-    -- a route through F is 9
-    ∷ checks P3-card
-    (P3-blocks ++ 0x10 ∷ 0x01 ∷ 0x02 ∷ 0x02
-    ∷ 0x13 ∷ 0x01 ∷ 0x00 ∷ 0x02 ∷ 0xff ∷ 0xff ∷ 0xff ∷ 0xff ∷ 0xff ∷ []) (0 ∷ 1 ∷ 9 ∷ 124 ∷ [])
-    -- a route to another receiver than the one due is 9
-    ∷ checks P3-card (0x10 ∷ 0x00 ∷ 0x01 ∷ 0x01 ∷ 0x13 ∷ 0x00 ∷ 0x02 ∷ 0xff ∷ 0xff ∷ 0xff ∷ 0xff ∷ 0xff ∷ 0xff ∷ []) (0 ∷ 1 ∷ 9 ∷ 4 ∷ [])
-    -- a gap in the fill is 9: FF between two servers, and a server after the fill
-    ∷ checks P1-card (0x10 ∷ 0x00 ∷ 0x01 ∷ 0x01 ∷ 0x13 ∷ 0x00 ∷ 0xff ∷ 0x01 ∷ 0xff ∷ 0xff ∷ 0xff ∷ 0xff ∷ 0xff ∷ 0x15 ∷ []) (0 ∷ 1 ∷ 9 ∷ 4 ∷ [])
-    ∷ checks P1-card (0x10 ∷ 0x00 ∷ 0x01 ∷ 0x01 ∷ 0x13 ∷ 0x00 ∷ 0x01 ∷ 0xff ∷ 0x01 ∷ 0xff ∷ 0xff ∷ 0xff ∷ 0xff ∷ 0x15 ∷ []) (0 ∷ 1 ∷ 9 ∷ 4 ∷ [])
-    -- a server twice is 9
-    ∷ checks P3-card (0x10 ∷ 0x00 ∷ 0x01 ∷ 0x01 ∷ 0x13 ∷ 0x00 ∷ 0x02 ∷ 0x00 ∷ 0x01 ∷ 0xff ∷ 0xff ∷ 0xff ∷ 0xff ∷ []) (0 ∷ 1 ∷ 9 ∷ 4 ∷ [])
-    -- a link that is not there is 9
-    ∷ checks P1-card (0x10 ∷ 0x00 ∷ 0x02 ∷ 0x02 ∷ 0x13 ∷ 0x01 ∷ 0x00 ∷ 0xff ∷ 0xff ∷ 0xff ∷ 0xff ∷ 0xff ∷ 0xff ∷ 0x15 ∷ []) (0 ∷ 1 ∷ 9 ∷ 4 ∷ [])
-    -- 15 early is 7: before the block, and within it
-    ∷ checks P1-card (0x15 ∷ P5-plan) (0 ∷ 1 ∷ 7 ∷ 0 ∷ [])
-    ∷ checks P1-card (0x10 ∷ 0x00 ∷ 0x01 ∷ 0x01 ∷ 0x15 ∷ []) (0 ∷ 1 ∷ 7 ∷ 4 ∷ [])
-    -- bytes after 15 are 3, at the first of them
-    ∷ checks P1-card (P5-plan ++ 0x00 ∷ []) (0 ∷ 1 ∷ 3 ∷ 14 ∷ [])
+    row "P1 is read" (reads P1-card) (1 ∷ 2 ∷ 0 ∷ [])
+    ∷ row "P1 has no bad split" (splits P1-card) (1 ∷ [])
+    ∷ row "P2 has the bad split F 0, L 1, C 0, R 2" (splits P2-card) (2 ∷ 0 ∷ 1 ∷ 0 ∷ 2 ∷ [])
+    ∷ row "P3 has the bad split F 1, L 2, C 0, R 4" (splits P3-card) (2 ∷ 1 ∷ 2 ∷ 0 ∷ 4 ∷ [])
+    ∷ row "P4 has no bad split" (splits P4-card) (1 ∷ [])
+    ∷ row "n 8 is read" (reads (0x01 ∷ 0x08 ∷ 0x00 ∷ 0x03 ∷ [])) (1 ∷ 8 ∷ 0 ∷ [])
+    ∷ row "n 9 is refused 5" (reads (0x01 ∷ 0x09 ∷ 0x00 ∷ 0x03 ∷ [])) (0 ∷ 0 ∷ 5 ∷ 0 ∷ [])
+    ∷ row "f 2 is read" (reads (0x01 ∷ 0x08 ∷ 0x02 ∷ 0x03 ∷ [])) (1 ∷ 8 ∷ 2 ∷ [])
+    ∷ row "f 3 is refused 5" (reads (0x01 ∷ 0x08 ∷ 0x03 ∷ 0x03 ∷ [])) (0 ∷ 0 ∷ 5 ∷ 0 ∷ [])
+    ∷ row "an empty card is refused 2 at place 0" (reads []) (0 ∷ 0 ∷ 2 ∷ 0 ∷ [])
+    ∷ row "P5 is accepted: 1 block, 1 carriage" (checks P1-card P5-plan) (1 ∷ 1 ∷ 1 ∷ [])
+    ∷ row "P6 is refused 7 at place 4, since a 11 route is due" (checks P1-card P6-plan) (0 ∷ 1 ∷ 7 ∷ 4 ∷ [])
+    ∷ row "P7: both decide 1" (runs P1-card P5-plan (1 ∷ 0 ∷ []) 0 [] (9 ∷ 9 ∷ [])) (1 ∷ 1 ∷ 1 ∷ 1 ∷ 1 ∷ [])
+    ∷ row "later bytes of the lent buffer are untouched" (runs P1-card P5-plan (0 ∷ 1 ∷ []) 0 [] (9 ∷ 9 ∷ 9 ∷ [])) (1 ∷ 1 ∷ 1 ∷ 0 ∷ 0 ∷ 9 ∷ [])
+    ∷ row "P8: at f 1 the arrivals 0 and missing, of faulty server 1, come to 2"
+    (gathers 2 (0 ∷ []) two-carriages 4 (0 ∷ 0 ∷ 0 ∷ 2 ∷ 2 ∷ 2 ∷ 2 ∷ 2 ∷ [])) (0 ∷ 0 ∷ 2 ∷ 2 ∷ 2 ∷ 2 ∷ 2 ∷ 2 ∷ [])
+    ∷ row "P9: at f 1 the arrivals 1 and 1 come to 1"
+    (gathers 0 [] two-carriages 4 (1 ∷ 1 ∷ 2 ∷ 2 ∷ 2 ∷ 2 ∷ 2 ∷ 2 ∷ [])) (1 ∷ 1 ∷ 1 ∷ 2 ∷ 2 ∷ 2 ∷ 2 ∷ 2 ∷ [])
+    ∷ row "P10: with an S of one server step 3 keeps t"
+    (compares 0 [] [] 1 (1 ∷ 0 ∷ 2 ∷ 2 ∷ 2 ∷ 2 ∷ 2 ∷ 2 ∷ [])) (1 ∷ 0 ∷ 2 ∷ 2 ∷ 2 ∷ 2 ∷ 2 ∷ 2 ∷ [])
+    ∷ row "a plan of f 1 is accepted: 19 blocks, 118 carriages" (checks P4-card P4-plan) (1 ∷ 19 ∷ 118 ∷ [])
+    ∷ row "with inputs 1 0 0 1 and server 2 faulty the others decide 1"
+    (runs P4-card P4-plan (1 ∷ 0 ∷ 0 ∷ 1 ∷ []) 4 P4-table (9 ∷ 9 ∷ 9 ∷ 9 ∷ 9 ∷ [])) (1 ∷ 19 ∷ 118 ∷ 1 ∷ 1 ∷ 2 ∷ 1 ∷ 9 ∷ [])
+    ∷ row "too few inputs are 12 before 13 and 14, and change no byte" (runs P1-card P5-plan (1 ∷ []) 1 [] (9 ∷ [])) (0 ∷ 2 ∷ 12 ∷ 9 ∷ [])
+    ∷ row "an input of 2 is 12" (runs P1-card P5-plan (1 ∷ 2 ∷ []) 0 [] (9 ∷ 9 ∷ [])) (0 ∷ 2 ∷ 12 ∷ 9 ∷ 9 ∷ [])
+    ∷ row "a faulty set over f is 13 before 14" (runs P1-card P5-plan (1 ∷ 0 ∷ []) 1 [] (9 ∷ [])) (0 ∷ 2 ∷ 13 ∷ 9 ∷ [])
+    ∷ row "a faulty server that is not in V is 13" (runs P1-card P5-plan (1 ∷ 0 ∷ []) 4 [] (9 ∷ 9 ∷ [])) (0 ∷ 2 ∷ 13 ∷ 9 ∷ 9 ∷ [])
+    ∷ row "a short buffer is 14" (runs P1-card P5-plan (1 ∷ 0 ∷ []) 0 [] (9 ∷ [])) (0 ∷ 2 ∷ 14 ∷ 9 ∷ [])
+    ∷ row "a refused plan comes before the call, and changes no byte" (runs P1-card P6-plan (1 ∷ []) 1 [] (9 ∷ [])) (0 ∷ 1 ∷ 7 ∷ 4 ∷ 9 ∷ [])
+    ∷ row "a second 11 route is due at f 1, and 13 is found: 7"
+    (checks P3-card (opening 0x00 0x01 0x02 ++ direct 0x11 ((0, 1) ∷ []) ++ (0x13 ∷ 0x00 ∷ 0x02 ∷ 0x01 ∷ 0xff ∷ 0xff ∷ 0xff ∷ 0xff ∷ 0xff ∷ []))) (0 ∷ 1 ∷ 7 ∷ 13 ∷ [])
+    ∷ row "a 13 cut off where 11 is due is 2" (checks P1-card (opening 0x00 0x02 0x01 ++ (0x13 ∷ 0x00 ∷ 0x01 ∷ []))) (0 ∷ 1 ∷ 2 ∷ 4 ∷ [])
+    ∷ row "a 13 cut off where 10 is due is 2" (checks P1-card (0x13 ∷ 0x00 ∷ 0x01 ∷ [])) (0 ∷ 1 ∷ 2 ∷ 0 ∷ [])
+    ∷ row "a whole 13 where 10 is due is 7" (checks P1-card (direct 0x13 ((0, 1) ∷ []))) (0 ∷ 1 ∷ 7 ∷ 0 ∷ [])
+    ∷ row "two routes of 13 to one receiver that begin at one server are 10 at the later one"
+    (checks P4-card (opening 0x00 0x01 0x01 ++ direct 0x13 ((0, 1) ∷ []) ++ (0x13 ∷ 0x00 ∷ 0x02 ∷ 0x01 ∷ 0xff ∷ 0xff ∷ 0xff ∷ 0xff ∷ 0xff ∷ []))) (0 ∷ 1 ∷ 10 ∷ 13 ∷ [])
+    ∷ row "two routes of 11 to one receiver that begin at one server are 10 at the later one"
+    (checks P4-card (opening 0x00 0x01 0x02 ++ direct 0x11 ((0, 1) ∷ []) ++ (0x11 ∷ 0x00 ∷ 0x02 ∷ 0x01 ∷ 0xff ∷ 0xff ∷ 0xff ∷ 0xff ∷ 0xff ∷ []))) (0 ∷ 1 ∷ 10 ∷ 13 ∷ [])
+    ∷ row "a route through F is 9"
+    (checks P3-card (P3-blocks ++ opening 0x01 0x02 0x02 ++ (0x13 ∷ 0x01 ∷ 0x00 ∷ 0x02 ∷ 0xff ∷ 0xff ∷ 0xff ∷ 0xff ∷ 0xff ∷ []))) (0 ∷ 1 ∷ 9 ∷ 124 ∷ [])
+    ∷ row "a route to another receiver than the one due is 9" (checks P3-card (opening 0x00 0x01 0x01 ++ direct 0x13 ((0, 2) ∷ []))) (0 ∷ 1 ∷ 9 ∷ 4 ∷ [])
+    ∷ row "FF between two servers is 9"
+    (checks P1-card (opening 0x00 0x01 0x01 ++ (0x13 ∷ 0x00 ∷ 0xff ∷ 0x01 ∷ 0xff ∷ 0xff ∷ 0xff ∷ 0xff ∷ 0xff ∷ 0x15 ∷ []))) (0 ∷ 1 ∷ 9 ∷ 4 ∷ [])
+    ∷ row "a server after the fill is 9"
+    (checks P1-card (opening 0x00 0x01 0x01 ++ (0x13 ∷ 0x00 ∷ 0x01 ∷ 0xff ∷ 0x01 ∷ 0xff ∷ 0xff ∷ 0xff ∷ 0xff ∷ 0x15 ∷ []))) (0 ∷ 1 ∷ 9 ∷ 4 ∷ [])
+    ∷ row "a server twice is 9"
+    (checks P3-card (opening 0x00 0x01 0x01 ++ (0x13 ∷ 0x00 ∷ 0x02 ∷ 0x00 ∷ 0x01 ∷ 0xff ∷ 0xff ∷ 0xff ∷ 0xff ∷ []))) (0 ∷ 1 ∷ 9 ∷ 4 ∷ [])
+    ∷ row "a link that is not there is 9" (checks P1-card (opening 0x00 0x02 0x02 ++ direct 0x13 ((1, 0) ∷ []) ++ (0x15 ∷ []))) (0 ∷ 1 ∷ 9 ∷ 4 ∷ [])
+    ∷ row "15 before the block is 7" (checks P1-card (0x15 ∷ P5-plan)) (0 ∷ 1 ∷ 7 ∷ 0 ∷ [])
+    ∷ row "15 within the block is 7" (checks P1-card (opening 0x00 0x01 0x01 ++ (0x15 ∷ []))) (0 ∷ 1 ∷ 7 ∷ 4 ∷ [])
+    ∷ row "bytes after 15 are 3, at the first of them" (checks P1-card (P5-plan ++ (0x00 ∷ []))) (0 ∷ 1 ∷ 3 ∷ 14 ∷ [])
     ∷ []
+
+-- P10 for every S of one server: step 3 keeps each t, in every block of every accepted plan
+abbrev pub KeepsAlone : Type 0
+KeepsAlone =
+    (card plan : List ℕ) (n f : ℕ) (links : Links) → readCard card ≡ network n f links → Accepted card plan
+    → (b : Block) → List·Memᴰ b (decodePlan n f plan) → size (b .quorum) ≡ 1
+    → (faulty : ℕ) (messages : List ℕ) (number : ℕ) (t : List ℕ) (i : ℕ) → i < 8
+    → held (compare faulty messages number (map carriageOf (b .among)) (b .quorum) t) i ≡ held t i

@@ -24,7 +24,7 @@ use Rattle.network.specs.Card.{readCard, head, headOf, linksOf}
 use Rattle.network.specs.Card as Card
 use Rattle.network.proofs.Heads.{network-of, refused-of}
 use Rattle.network.proofs.Main.{card-proper}
-use Rattle.run.specs.Run.{runPlan, lentAfter}
+use Rattle.steps.specs.Run.{runPlan, lentAfter}
 use Rattle.run.specs.Answers.{Answered, ranOf}
 use Rattle.run.specs.declared.call.Ran.{Ran}
 use Rattle.transcript.specs.Text.{tooLong, blocksWord, carriagesWord, serverWord, decidedWord, faultyWord, refusedWord, cardWord, planWord, callWord, gap, newline, decimal, totalsLine, decidedLine, decidedLines, refusedLine, faultyOf, inputsOf, tableOf, answerLines, filesLines, isLong, transcript, Put}

@@ -12,7 +12,7 @@ use Rattle.sets.specs.Sets.{has}
 use Rattle.refusal.specs.Refused.{Refused, card, plan, call}
 use Rattle.network.specs.Card.{Network, network, refused, readCard}
 use Rattle.plan.specs.Check.{Totals, totals, turned}
-use Rattle.run.specs.Run.{runPlan, lentAfter}
+use Rattle.steps.specs.Run.{runPlan, lentAfter}
 
 -- "too long\n"
 unfoldable pub tooLong : List ℕ

@@ -12,7 +12,7 @@ ghost use lib.Dec.{eqb};
 ghost use lib.ListN.{length, replicate};
 ghost use Rattle.refusal.specs.Refused.{refusalOf};
 ghost use Rattle.network.specs.Card.{readCard};
-ghost use Rattle.run.specs.Run.{runPlan, lentAfter};
+ghost use Rattle.steps.specs.Run.{runPlan, lentAfter};
 ghost use Rattle.transcript.specs.Text.{faultyWord, cardWord, planWord, decimal, totalsLine, decidedLine, decidedLines, refusedLine, faultyOf, inputsOf, tableOf, answerLines, filesLines, isLong, transcript, Put};
 
 // The text from a place on; answers the place after it.

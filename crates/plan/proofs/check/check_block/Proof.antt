@@ -3,7 +3,7 @@ use mathlib.Core.Path.{refl, sym, ap, _∙_}
 use Prim.Native.Nat.{_-_}
 use native.Mathlib.Omega.{arith}
 use borrow.Author.Needs.{needs}
-use Rattle.plan.specs.Check.{width}
+use Rattle.route.specs.Commands.{width}
 use Rattle.plan.proofs.Groups.{whole-command}
 use Rattle.plan.proofs.Parts.{sound-is, block-cut, block-other, block-fault, block-side, block-empty, block-outside, block-rest}
 use borrow.Author.Needs.{needs}
@@ -14,7 +14,7 @@ use Rattle.plan.proofs.check.check_block.Reads as reads
 use Rattle.plan.proofs.check.check_block.Lts as lts
 use Rattle.plan.proofs.check.check_rest.Reads as check-rest-reads
 use Rattle.plan.proofs.check.is_side.Reads as is-side-reads
-use Rattle.plan.proofs.command.is_cut.Reads as is-cut-reads
+use Rattle.route.proofs.command.is_cut.Reads as is-cut-reads
 use Rattle.sets.proofs.full.Reads as full-reads
 use Rattle.sets.proofs.minus.Reads as minus-reads
 use Rattle.sets.proofs.within.Reads as within-reads

@@ -6,14 +6,15 @@ use Prim.Native.Nat.{ℕ, _+_, _≤_, _<_}
 use native.Mathlib.Omega.{arith}
 use lib.ListN.{length, getD}
 use borrow.Author.Tests.{lt-ltb, le-ltb, eq-eqb, ne-eqb}
-use Rattle.plan.specs.Check.{reached, stopped, isCut, isDue, checkEnd}
+use Rattle.route.specs.Commands.{isCut}
+use Rattle.plan.specs.Check.{reached, stopped, isDue, checkEnd}
 use Rattle.plan.proofs.Groups.{whole-command}
 use borrow.Author.Needs.{needs}
 use Rattle.plan.proofs.check.check_end.Statement.{statement}
 use Rattle.plan.proofs.check.check_end.Tie as tie
 use Rattle.plan.proofs.check.check_end.Reads as reads
 use Rattle.plan.proofs.check.check_end.Lts as lts
-use Rattle.plan.proofs.command.is_cut.Reads as is-cut-reads
+use Rattle.route.proofs.command.is_cut.Reads as is-cut-reads
 
 module _ (s : List ℕ) (at carriages : ℕ) (b : Bool) (e : b ≡ isCut s at) where
   end-cut : b ≡ true → stopped 2 at ≡ checkEnd s at carriages

@@ -4,7 +4,7 @@ use mathlib.Core.Path.{_≡_, refl, sym, ap, _∙_}
 use Prim.Native.Nat.{ℕ, _+_, _-_, _≤_, _<_}
 use native.Mathlib.Omega.{arith}
 use borrow.Author.Needs.{needs}
-use Rattle.plan.specs.Route.{checkedRoute}
+use Rattle.route.specs.Route.{checkedRoute}
 use Rattle.plan.specs.Check.{checkGroup}
 use Rattle.plan.specs.Answers.{groupOf}
 use Rattle.plan.proofs.Groups.{whole-command, part-rest, one-less, group-cut, group-other, group-route, group-shared, group-on, group-done}
@@ -12,9 +12,9 @@ use Rattle.plan.proofs.check.check_group.Statement.{statement}
 use Rattle.plan.proofs.check.check_group.Tie as tie
 use Rattle.plan.proofs.check.check_group.Reads as reads
 use Rattle.plan.proofs.check.check_group.Lts as lts
-use Rattle.plan.proofs.check.set_of.Reads as set-of-reads
-use Rattle.plan.proofs.command.is_cut.Reads as is-cut-reads
-use Rattle.plan.proofs.route.check_route.Reads as check-route-reads
+use Rattle.route.proofs.set_of.Reads as set-of-reads
+use Rattle.route.proofs.command.is_cut.Reads as is-cut-reads
+use Rattle.route.proofs.check_route.Reads as check-route-reads
 use Rattle.sets.proofs.meet.Reads as meet-reads
 use Rattle.sets.proofs.minus.Reads as minus-reads
 use Rattle.sets.proofs.single.Reads as single-reads

@@ -3,8 +3,8 @@ use mathlib.Core.Path.{refl, sym, ap, _∙_}
 use Prim.Native.Nat.{_+_, _-_}
 use native.Mathlib.Omega.{arith}
 use borrow.Author.Needs.{needs}
-use Rattle.plan.specs.Route.{checkedRoute}
-use Rattle.plan.specs.Check.{width}
+use Rattle.route.specs.Route.{checkedRoute}
+use Rattle.route.specs.Commands.{width}
 use Rattle.plan.specs.Answers.{groupOf}
 use Rattle.plan.proofs.Groups.{whole-command, part-rest, group-cut, group-other, group-route, group-one}
 use borrow.Author.Needs.{needs}
@@ -12,8 +12,8 @@ use Rattle.plan.proofs.check.check_one.Statement.{statement}
 use Rattle.plan.proofs.check.check_one.Tie as tie
 use Rattle.plan.proofs.check.check_one.Reads as reads
 use Rattle.plan.proofs.check.check_one.Lts as lts
-use Rattle.plan.proofs.command.is_cut.Reads as is-cut-reads
-use Rattle.plan.proofs.route.check_route.Reads as check-route-reads
+use Rattle.route.proofs.command.is_cut.Reads as is-cut-reads
+use Rattle.route.proofs.check_route.Reads as check-route-reads
 
 is-cut-requires : tie.Need-is-cut-requires
 is-cut-requires c κs = search needs

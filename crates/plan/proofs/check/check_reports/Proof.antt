@@ -11,7 +11,7 @@ use Rattle.plan.proofs.check.check_reports.Tie as tie
 use Rattle.plan.proofs.check.check_reports.Reads as reads
 use Rattle.plan.proofs.check.check_reports.Lts as lts
 use Rattle.plan.proofs.check.is_report.Reads as is-report-reads
-use Rattle.plan.proofs.command.is_cut.Reads as is-cut-reads
+use Rattle.route.proofs.command.is_cut.Reads as is-cut-reads
 use Rattle.sets.proofs.member.Reads as member-reads
 
 abbrev Inv-loop : tie.InvT-loop

@@ -7,7 +7,8 @@ use lib.ListN.{length}
 use Rattle.sets.specs.Sets.{minus, full}
 use Rattle.plan.specs.Members.{members}
 use Rattle.plan.specs.Due.{fan, pairs}
-use Rattle.plan.specs.Check.{width, andThen, checkGroups, checkReports}
+use Rattle.route.specs.Commands.{width}
+use Rattle.plan.specs.Check.{andThen, checkGroups, checkReports}
 use Rattle.plan.proofs.Parts.{halts-then, moves-then, rest-split}
 use Rattle.plan.proofs.Bounds.{fan-bound, code-bound}
 use borrow.Author.Needs.{needs}

@@ -4,7 +4,7 @@ use mathlib.Core.Path.{_≡_, refl}
 use Prim.Native.Nat.{_-_, _≤_}
 use native.Mathlib.Omega.{arith}
 use lib.ListN.{length, drop}
-use Rattle.run.specs.Run.{areBits}
+use Rattle.steps.specs.Run.{areBits}
 use Rattle.run.proofs.Lent.{bits-done, bits-lack, bits-go}
 use borrow.Author.Needs.{needs}
 use Rattle.run.proofs.call.are_bits.Statement.{statement}

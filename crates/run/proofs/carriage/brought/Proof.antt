@@ -1,7 +1,7 @@
 -- `run::carriage::brought` meets its contract. Assumes nothing.
 use mathlib.Core.Path.{sym, _∙_}
 use Rattle.run.specs.Speaking.{workOf}
-use Rattle.run.proofs.Eight.{values-at}
+use Rattle.steps.proofs.Eight.{values-at}
 use borrow.Author.Needs.{needs}
 use Rattle.run.proofs.carriage.brought.Statement.{statement}
 use Rattle.run.proofs.carriage.brought.Tie as tie

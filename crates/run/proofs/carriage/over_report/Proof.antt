@@ -4,7 +4,7 @@ use lib.ListN.{length}
 use borrow.Author.Needs.{needs}
 use native.Mathlib.Omega.{arith}
 use Rattle.plan.specs.Members.{members}
-use Rattle.run.specs.Steps.{held}
+use Rattle.steps.specs.Steps.{held}
 use Rattle.run.specs.Speaking.{bitsOf}
 use Rattle.run.proofs.Reported.{Telling, telling-starts, telling-eight, telling-less, telling-goes, telling-done}
 use Rattle.run.proofs.carriage.over_report.Statement.{statement}

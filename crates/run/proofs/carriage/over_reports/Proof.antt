@@ -3,7 +3,7 @@
 use Prim.Native.Nat.{_-_}
 use borrow.Author.Needs.{needs}
 use native.Mathlib.Omega.{arith}
-use Rattle.run.specs.Steps.{held}
+use Rattle.steps.specs.Steps.{held}
 use Rattle.run.specs.Speaking.{bitsOf}
 use Rattle.run.proofs.Reported.{Gathering, gathering-starts, gathering-eight, gathering-goes, gathering-done}
 use Rattle.run.proofs.carriage.over_reports.Statement.{statement}

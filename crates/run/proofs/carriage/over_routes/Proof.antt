@@ -5,8 +5,8 @@ use mathlib.Core.List.{map}
 use Prim.Native.Nat.{_-_, _<_}
 use native.Mathlib.Omega.{arith}
 use Rattle.rules.specs.Blocks.{routesAt, carriageOf}
-use Rattle.run.specs.Hearing.{heard}
-use Rattle.run.specs.Steps.{held}
+use Rattle.steps.specs.Hearing.{heard}
+use Rattle.steps.specs.Steps.{held}
 use Rattle.run.specs.Speaking.{worksOf}
 use Rattle.run.proofs.Speaking.{speaks-packed}
 use Rattle.run.proofs.Carried.{brought-is, route-wide, route-two, route-source, route-receiver, Arriving, arrivals-start, arrivals-go, arrivals-end}

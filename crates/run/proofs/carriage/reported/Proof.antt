@@ -1,7 +1,7 @@
 -- `run::carriage::reported` meets its contract. Assumes nothing.
 use mathlib.Core.Path.{sym, _∙_}
 use Rattle.run.specs.Speaking.{bitOf}
-use Rattle.run.proofs.Eight.{values-at}
+use Rattle.steps.proofs.Eight.{values-at}
 use borrow.Author.Needs.{needs}
 use Rattle.run.proofs.carriage.reported.Statement.{statement}
 use Rattle.run.proofs.carriage.reported.Tie as tie

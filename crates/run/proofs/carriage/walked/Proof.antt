@@ -6,9 +6,9 @@ use mathlib.Core.Bool.{_||_}
 use Prim.Native.Nat.{_+_, _-_, _≤_}
 use native.Mathlib.Omega.{arith}
 use lib.ListN.{length, take, drop}
-use Rattle.plan.specs.Route.{path}
-use Rattle.plan.proofs.Paths.{path-stops, path-passes, path-ends}
-use Rattle.run.specs.Hearing.{hit}
+use Rattle.route.specs.Route.{path}
+use Rattle.route.proofs.Paths.{path-stops, path-passes, path-ends}
+use Rattle.steps.specs.Hearing.{hit}
 use Rattle.run.proofs.Carried.{place-starts, hit-first, hit-more}
 use Rattle.run.proofs.carriage.walked.Statement.{statement}
 use Rattle.run.proofs.carriage.walked.Tie as tie

@@ -1,0 +1,2 @@
+-- Lists   what holds of each element of a list
+pub mod Lists

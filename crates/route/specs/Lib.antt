@@ -1,0 +1,4 @@
+-- Commands   how many bytes a command takes, and where one is cut off
+-- Route      the rules that a route keeps on its own
+pub mod Commands
+pub mod Route
