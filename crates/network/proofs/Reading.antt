@@ -1,5 +1,6 @@
 -- The card reader. `At s at n f links` says that what is left to read from `at` on gives the answer of the whole card; the fuel is what the
--- definition counts down, and is never used up. One lemma for each way that a command ends. Assumes nothing.
+-- definition counts down, and is never used up. One lemma for each way that a command ends. The loop over the links stands at a `Turn`, then at
+-- a whole link (`Linking`), then at one between two servers (`Fitting`). Assumes nothing.
 use mathlib.Core.Path.{_≡_, refl, sym, ap, _∙_}
 use mathlib.Core.Bool.{Bool, true, false, cond, not, _&&_}
 use mathlib.Core.List.{List, []}
@@ -9,11 +10,12 @@ use lib.ListN.{length, getD, set}
 use lib.Dec.{eqb, ltb}
 use borrow.Author.Tests.{lt-ltb, le-ltb, eq-eqb, ne-eqb, eqb-true, eqb-false, ltb-true, ltb-false}
 use Rattle.facts.proofs.Bools.{bools, cases, clash}
-use Rattle.refusal.specs.Refused.{Refused, card, cardRefusal}
+use Rattle.refusal.specs.Refused.{Refused, card, cardRefusal, refusalOf}
 use Rattle.refusal.specs.declared.CardGround.{CardGround}
+use Rattle.refusal.specs.declared.Refusal.{Refusal}
 use Rattle.network.specs.Links.{Links, noLinks, linkedIn, withLink}
-use Rattle.network.specs.Card.{Network, network, refused, Step, more, done, turnedBack, headFits, linkFits, headAt, linkAt, endAt, stepAt, commands, readCard, turned, headOf, linksAfter}
-use Rattle.network.specs.Places.{At, wholeLink, Opened, Opening}
+use Rattle.network.specs.Card.{Network, network, refused, Step, more, done, turnedBack, headFits, linkFits, headAt, linkAt, endAt, stepAt, commands, readCard, turned, headOf, linksAfter, withLinks}
+use Rattle.network.specs.Places.{At, wholeLink, Opened, Opening, Closing}
 use Rattle.network.specs.declared.card.Head as C
 use Rattle.network.specs.Answers.{readingOf, Answered}
 use Rattle.network.specs.declared.card.Reading as R
@@ -117,20 +119,20 @@ module _ (s : List ℕ) (at n f : ℕ) (links : Links) where
         unfolding linkAt
         link-first z = step-link ∙ simp (le-ltb (length s) (at + 3) (omega arith), eq-eqb at 0 z)
 
-        module _ (z : at ≡ 0 → ⊥) (b : Bool) (q : b ≡ linkFits n (getD s (at + 1) 0) (getD s (at + 2) 0)) where
-          pub link-range : b ≡ false → stepAt s at n f links ≡ turnedBack 5 at
+        module _ (z : at ≡ 0 → ⊥) where
+          pub link-range : linkFits n (getD s (at + 1) 0) (getD s (at + 2) 0) ≡ false → stepAt s at n f links ≡ turnedBack 5 at
           unfolding linkAt
-          link-range w = step-link ∙ simp (le-ltb (length s) (at + 3) (omega arith), ne-eqb at 0 z, sym q ∙ w)
+          link-range w = step-link ∙ simp (le-ltb (length s) (at + 3) (omega arith), ne-eqb at 0 z, w)
 
-          module _ (w : b ≡ true) where
+          module _ (w : linkFits n (getD s (at + 1) 0) (getD s (at + 2) 0) ≡ true) where
             pub link-repeated : getD (getD links (getD s (at + 1) 0) []) (getD s (at + 2) 0) false ≡ true → stepAt s at n f links ≡ turnedBack 6 at
             unfolding linkAt linkedIn
-            link-repeated g = step-link ∙ simp (le-ltb (length s) (at + 3) (omega arith), ne-eqb at 0 z, sym q ∙ w, g)
+            link-repeated g = step-link ∙ simp (le-ltb (length s) (at + 3) (omega arith), ne-eqb at 0 z, w, g)
 
             pub link-goes : getD (getD links (getD s (at + 1) 0) []) (getD s (at + 2) 0) false ≡ false
                 → stepAt s at n f links ≡ more (at + 3) n f (set links (getD s (at + 1) 0) (set (getD links (getD s (at + 1) 0) []) (getD s (at + 2) 0) true))
             unfolding linkAt linkedIn withLink
-            link-goes g = step-link ∙ simp (le-ltb (length s) (at + 3) (omega arith), ne-eqb at 0 z, sym q ∙ w, g)
+            link-goes g = step-link ∙ simp (le-ltb (length s) (at + 3) (omega arith), ne-eqb at 0 z, w, g)
 
 -- the test for a whole link, both ways
 pub link-whole : (s : List ℕ) (at : ℕ) (b : Bool) → b ≡ wholeLink s at → b ≡ true → (3 ≤ length s - at) × (getD s at 0 ≡ 2)
@@ -167,19 +169,73 @@ pub head-most : (n f : ℕ) (b : Bool) → b ≡ headFits n f → b ≡ true →
 unfolding headFits
 head-most n f b q w = let e = sym q ∙ w in let t : ltb 8 n ≡ false = search bools in ltb-false 8 n t
 
-pub link-from : (n u v : ℕ) (b : Bool) → b ≡ linkFits n u v → b ≡ true → n ≤ 8 → u < 8
+link-servers : (n u v : ℕ) → n ≤ 8 → linkFits n u v ≡ true → (u < 8) × (v < 8)
 unfolding linkFits
-link-from n u v b q w h = let e = sym q ∙ w in let t : ltb u n ≡ true = search bools in let l = ltb-true u n t in omega arith
-
-pub link-to : (n u v : ℕ) (b : Bool) → b ≡ linkFits n u v → b ≡ true → n ≤ 8 → v < 8
-unfolding linkFits
-link-to n u v b q w h = let e = sym q ∙ w in let t : ltb v n ≡ true = search bools in let l = ltb-true v n t in omega arith
+link-servers n u v h e =
+    let a : ltb u n ≡ true = search bools in
+    let b : ltb v n ≡ true = search bools in
+    let x = ltb-true u n a in
+    let y = ltb-true v n b in
+    (omega arith, omega arith)
 
 -- the loop's invariant: the card is read up to `at`
 pub record Turn (s : List ℕ) (at n f : ℕ) (marks : Links) : Type 0 where
   pub most : n ≤ 8
   pub later : 0 < at
   pub reading : At s at n f marks
+
+-- a turn at a whole link
+pub record Linking (s : List ℕ) (at n f : ℕ) (marks : Links) : Type 0 where
+  pub turn : Turn s at n f marks
+  pub room : at + 3 ≤ length s
+  pub two : getD s at 0 ≡ 2
+
+-- whose operands are two servers
+pub record Fitting (s : List ℕ) (at n f : ℕ) (marks : Links) : Type 0 where
+  pub linking : Linking s at n f marks
+  pub fits : linkFits n (getD s (at + 1) 0) (getD s (at + 2) 0) ≡ true
+  pub servers : (getD s (at + 1) 0 < 8) × (getD s (at + 2) 0 < 8)
+
+module _ {s : List ℕ} {at n f : ℕ} {marks : Links} where
+  pub turn-links : Turn s at n f marks → {w : Bool} → w ≡ wholeLink s at → w ≡ true → Linking s at n f marks
+  turn-links t {w} is so = let l = link-whole s at w is so in record { turn = t; room = omega arith; two = l .1 }
+
+  module _ (k : Linking s at n f marks) where
+    later : at ≡ 0 → ⊥
+    later = let z = k .turn .later in omega arith
+
+    pub linking-fits : {b : Bool} → b ≡ linkFits n (getD s (at + 1) 0) (getD s (at + 2) 0) → b ≡ true → Fitting s at n f marks
+    linking-fits q e = let w = sym q ∙ e in record { linking = k; fits = w; servers = link-servers n _ _ (k .turn .most) w }
+
+    pub linking-range : {b : Bool} → b ≡ linkFits n (getD s (at + 1) 0) (getD s (at + 2) 0) → b ≡ false → refused (card 5 at) ≡ readCard s
+    linking-range q e = reading-answer (k .turn .reading) _ (link-range s at n f marks (omega arith) (k .two) (omega arith) later (sym q ∙ e))
+
+  module _ (k : Fitting s at n f marks) where
+    pub fitting-repeated : getD (getD marks (getD s (at + 1) 0) []) (getD s (at + 2) 0) false ≡ true → refused (card 6 at) ≡ readCard s
+    fitting-repeated g =
+        let l = k .linking in
+        reading-answer (l .turn .reading) _ (link-repeated s at n f marks (omega arith) (l .two) (omega arith) (later l) (k .fits) g)
+
+    pub fitting-goes : getD (getD marks (getD s (at + 1) 0) []) (getD s (at + 2) 0) false ≡ false
+        → Turn s (at + 3) n f (set marks (getD s (at + 1) 0) (set (getD marks (getD s (at + 1) 0) []) (getD s (at + 2) 0) true))
+    fitting-goes g =
+        let l = k .linking in
+        record {
+          most = l .turn .most;
+          later = omega arith;
+          reading = reading-goes (l .turn .reading) _ _ _ _ (link-goes s at n f marks (omega arith) (l .two) (omega arith) (later l) (k .fits) g) (omega arith) (l .room);
+        }
+
+  -- after the last whole link
+  module _ (t : Turn s at n f marks) (r : R.Reading) (o : Closing s at n f r) where
+    turn-ends : withLinks (readingOf r) marks ≡ readCard s
+    turn-ends = reading-answer (t .reading) _ (o marks)
+
+    pub turn-refused : {x : Refusal} → r ≡ R.Reading.Refused x → refused (refusalOf x) ≡ readCard s
+    turn-refused e = rw e at turn-ends
+
+    pub turn-read : {m g : ℕ} → r ≡ R.Reading.Network m g → network m g marks ≡ readCard s
+    turn-read e = rw e at turn-ends
 
 -- the two kinds of answers
 pub answered-refused : {s : List ℕ} {lent links : Links} (r : R.Reading) (x : Refused) → readingOf r ≡ turned x → refused x ≡ readCard s → links ≡ lent → Answered s lent r links

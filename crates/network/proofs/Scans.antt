@@ -10,7 +10,8 @@ use Prim.Native.Nat.{ℕ, zero, suc, _+_, _-_, _^_, _≤_, _<_, min}
 use native.Mathlib.Numerals.{add-one}
 use native.Mathlib.Omega.{arith}
 use lib.Dec.{leb}
-use lib.Pow.{pow-pos}
+use lib.ListN.{getD}
+use lib.Pow.{pow-pos, pow-mono}
 use borrow.Author.Tests.{le-leb, lt-leb, eq-eqb}
 use Rattle.refusal.specs.Refused.{Refused}
 use Rattle.sets.specs.Sets.{meet, size, union, minus, full, next}
@@ -82,9 +83,6 @@ left-jump lim i j p later whole so a b g =
     ∙ ap (λ (x : Split). orElse x later) (sym (firstFrom-skip (j - i) lim i p (omega arith) (λ x c d. g x c (omega arith))))
     ∙ so
 
-min-few : (n : ℕ) → n ≤ 8 → min n 8 ≡ n
-min-few n h = omega arith
-
 -- there are 2^n sets of n servers
 pub limit-of : (n servers : ℕ) → n ≤ 8 → servers ≡ full (min n 8) → servers + 1 ≡ 2 ^ n
 unfolding full
@@ -113,13 +111,14 @@ module _ (n f limit : ℕ) (sizes lower upper : List ℕ) where
     pub inside : j ≤ limit
     pub some : 0 < j
     pub clear : meet j i ≡ 0
-    pub small : leb (size i) f ≡ true
+    pub small : getD sizes i 0 ≤ f
     pub left : (links : Links) → Given links → Left limit j (badWithSides n f links i) (beyond limit i (badWithFaults n f links) good) (firstBad n f links)
 
-  -- before R = k, F being i and L being j
-  pub record Splits (i j k : ℕ) : Type 0 where
+  -- before R = k, F being i, L being j, and both together busy
+  pub record Splits (i j busy k : ℕ) : Type 0 where
     pub sides : Sides i j
     pub j-inside : j < limit
+    pub busy-is : busy ≡ union i j
     pub inside : k ≤ limit
     pub some : 0 < k
     pub clear : meet k (union i j) ≡ 0
@@ -145,15 +144,19 @@ module _ (n f limit : ℕ) (sizes lower upper : List ℕ) where
   pub scan-ends : (i : ℕ) → Scan i → limit ≤ i → (links : Links) → Given links → good ≡ firstBad n f links
   scan-ends i s h links so = left-done limit i (badWithFaults n f links) good (firstBad n f links) (s .left links so) h
 
-  module _ (i : ℕ) (s : Scan i) (h : i < limit) (k : ℕ) (e : k ≡ size i) where
-    pub scan-past : f < k → Scan (i + 1)
+  -- the table has the size of F
+  sized : (i : ℕ) → n ≤ 8 → limit ≡ 2 ^ n → i < limit → (links : Links) → Given links → getD sizes i 0 ≡ size i
+  sized i few e h links so = let m = pow-mono few in so .sized .entry i (omega arith)
+
+  module _ (i : ℕ) (s : Scan i) (h : i < limit) where
+    pub scan-past : f < getD sizes i 0 → Scan (i + 1)
     scan-past q =
         record {
           few = s .few;
           limit-is = s .limit-is;
           inside = omega arith;
           left = λ links so.
-              left-past limit i (badWithFaults n f links) good (firstBad n f links) (s .left links so) h (no-faults n f links i (lt-leb (size i) f (omega arith)));
+              left-past limit i (badWithFaults n f links) good (firstBad n f links) (s .left links so) h (no-faults n f links i (lt-leb (size i) f (let e = sized i (s .few) (s .limit-is) h links so in omega arith)));
         }
 
     -- no L before the first set apart from F
@@ -161,7 +164,7 @@ module _ (n f limit : ℕ) (sizes lower upper : List ℕ) where
     too-low links zero q = weak-empty n f links i
     too-low links (suc x) q = weak-meets n f links i (suc x) (λ a. skipped i 0 (suc x) (meet-nothing i) (omega arith) q (meet-comm (suc x) i ∙ a))
 
-    pub sides-start : k ≤ f → (j : ℕ) → j ≡ next 0 i → Sides i j
+    pub sides-start : getD sizes i 0 ≤ f → (j : ℕ) → j ≡ next 0 i → Sides i j
     unfolding badWithFaults
     sides-start q j w =
         let l = s .limit-is in
@@ -174,7 +177,7 @@ module _ (n f limit : ℕ) (sizes lower upper : List ℕ) where
           inside = omega arith;
           some = omega arith;
           clear = ap (λ (x : ℕ). meet x i) w ∙ next-apart 0 i;
-          small = le-leb (size i) f (omega arith);
+          small = q;
           left = λ links so.
               left-jump limit 0 j (badWithSides n f links i) (beyond limit i (badWithFaults n f links) good) (firstBad n f links)
               (left-into limit i (badWithFaults n f links) good (firstBad n f links) (s .left links so) h (badWithSides n f links i) (ap (λ (m : ℕ). firstFrom m 0 (badWithSides n f links i)) (sym (s .limit-is))))
@@ -234,7 +237,7 @@ module _ (n f limit : ℕ) (sizes lower upper : List ℕ) where
     too-low-right links zero k q = none-empty n f links i j 0 refl
     too-low-right links (suc x) k q = none-busy n f links i j (suc x) k (skipped (union i j) 0 (suc x) (meet-nothing (union i j)) (omega arith) q)
 
-    pub splits-start : b ≡ true → (busy k : ℕ) → busy ≡ union i j → k ≡ next 0 busy → Splits i j k
+    pub splits-start : b ≡ true → (busy k : ℕ) → busy ≡ union i j → k ≡ next 0 busy → Splits i j busy k
     unfolding badWithSides
     splits-start q busy k v w =
         let l = s .limit-is in
@@ -245,6 +248,7 @@ module _ (n f limit : ℕ) (sizes lower upper : List ℕ) where
         record {
           sides = s;
           j-inside = h;
+          busy-is = v;
           inside = omega arith;
           some = omega arith;
           clear = ap (λ (x : ℕ). meet x (union i j)) k-is ∙ next-apart 0 (union i j);
@@ -255,15 +259,15 @@ module _ (n f limit : ℕ) (sizes lower upper : List ℕ) where
               (omega arith) (omega arith) (λ x b c. too-low-right links x (omega arith) (omega arith));
         }
 
-  pub splits-end : (i j k : ℕ) → Splits i j k → limit ≤ k → (j′ : ℕ) → j′ ≡ next j i → Sides i j′
-  splits-end i j k s h j′ w =
+  pub splits-end : (i j busy k : ℕ) → Splits i j busy k → limit ≤ k → (j′ : ℕ) → j′ ≡ next j i → Sides i j′
+  splits-end i j busy k s h j′ w =
       sides-next i j j′ (s .sides) (s .j-inside) w λ links so.
       left-done limit k (badAt n f links i j) (beyond limit j (badWithSides n f links i) (beyond limit i (badWithFaults n f links) good)) (firstBad n f links) (s .left links so) h
 
-  pub splits-fall : (i j k busy k′ : ℕ) → Splits i j k → k < limit → busy ≡ union i j → k′ ≡ next k busy → limit - k′ < limit - k
-  splits-fall i j k busy k′ s h v w = let a = next-after k (union i j) (s .clear) in let e : k′ ≡ next k (union i j) = w ∙ ap (next k) v in omega arith
+  pub splits-fall : (i j busy k k′ : ℕ) → Splits i j busy k → k < limit → k′ ≡ next k busy → limit - k′ < limit - k
+  splits-fall i j busy k k′ s h w = let a = next-after k (union i j) (s .clear) in let e : k′ ≡ next k (union i j) = w ∙ ap (next k) (s .busy-is) in omega arith
 
-  module _ (i j k : ℕ) (s : Splits i j k) (h : k < limit) (b : Bool) (t : Tells b i k) where
+  module _ {i j busy k : ℕ} (s : Splits i j busy k) (h : k < limit) {b : Bool} (t : Tells b i k) where
     k-small : k < 2 ^ n
     k-small = let l = s .sides .limit-is in omega arith
 
@@ -271,17 +275,18 @@ module _ (n f limit : ℕ) (sizes lower upper : List ℕ) where
     right-weak links so =
         weak-is n f links i k (s .some) (meet-comm i k ∙ apart-left n k i j k-small (s .clear)) ∙ sym (t n links (s .sides .few) k-small so)
 
-    pub splits-past : b ≡ false → (busy k′ : ℕ) → busy ≡ union i j → k′ ≡ next k busy → Splits i j k′
-    splits-past q busy k′ v w =
+    pub splits-past : b ≡ false → (k′ : ℕ) → k′ ≡ next k busy → Splits i j busy k′
+    splits-past q k′ w =
         let l = s .sides .limit-is in
         let p = s .sides .i-inside in
         let g = s .j-inside in
-        let k-is : k′ ≡ next k (union i j) = w ∙ ap (next k) v in
+        let k-is : k′ ≡ next k (union i j) = w ∙ ap (next k) (s .busy-is) in
         let a = next-after k (union i j) (s .clear) in
         let m = next-small n k (union i j) k-small (union-small n i j (omega arith) (omega arith)) in
         record {
           sides = s .sides;
           j-inside = s .j-inside;
+          busy-is = s .busy-is;
           inside = omega arith;
           some = omega arith;
           clear = ap (λ (x : ℕ). meet x (union i j)) k-is ∙ next-apart k (union i j);
@@ -295,15 +300,17 @@ module _ (n f limit : ℕ) (sizes lower upper : List ℕ) where
         }
 
     -- the first bad split
-    pub splits-hit : b ≡ true → (servers sound sides c : ℕ) → servers ≡ full (min n 8) → sound ≡ minus servers i → sides ≡ union j k → c ≡ minus sound sides
-        → (links : Links) → Given links → bad i j c k ≡ firstBad n f links
-    unfolding rest
-    splits-hit q servers sound sides c p1 p2 p3 p4 links so =
-        let w : min n 8 ≡ n = min-few n (s .sides .few) in
-        let v : rest n i j k ≡ c = ap (λ (x : ℕ). minus (minus (full x) i) (union j k)) (sym w) ∙ cc in
+    pub splits-hit : b ≡ true → (servers : ℕ) → servers + 1 ≡ limit → {sound sides c : ℕ} → sound ≡ minus servers i → sides ≡ union j k → c ≡ minus sound sides
+        → {links : Links} → Given links → bad i j c k ≡ firstBad n f links
+    unfolding rest full
+    splits-hit q servers p1 {sound} {sides} {c} p2 p3 p4 {links} so =
+        let all : servers ≡ full n = let l = s .sides .limit-is in omega arith in
+        let v : rest n i j k ≡ c = cc in
+        let e = sized i (s .sides .few) (s .sides .limit-is) (s .sides .i-inside) links so in
+        let few = le-leb (size i) f (let m = s .sides .small in omega arith) in
         let lr : meet j k ≡ 0 = meet-comm j k ∙ apart-right n k i j k-small (s .clear) in
         let here : badAt n f links i j k ≡ bad i j (rest n i j k) k =
-        bad-here n f links i j k (s .sides .small) (s .weakL links so) (right-weak links so ∙ q) (eq-eqb (meet j k) 0 lr) in
+        bad-here n f links i j k few (s .weakL links so) (right-weak links so ∙ q) (eq-eqb (meet j k) 0 lr) in
         let all = left-turn limit k (badAt n f links i j) (beyond limit j (badWithSides n f links i) (beyond limit i (badWithFaults n f links) good)) (firstBad n f links) (s .left links so) h in
         ap (λ (x : ℕ). bad i j x k) (sym v)
         ∙ ap (λ (x : Split). orElse x (beyond limit k (badAt n f links i j) (beyond limit j (badWithSides n f links i) (beyond limit i (badWithFaults n f links) good)))) (sym here)

@@ -4,6 +4,7 @@
 --     to-..            the loop of `sources`: the servers below u with a link to v
 --     rows-..          the loop of `source_rows`
 --     half-..          the loop of `half_table`; joined-.. what `into_half` computes
+--     tables-of        the tables are those of a proper network's links
 --     halves-into      the two tables give the servers of V with a link into a set
 -- Assumes nothing.
 use mathlib.Core.Path.{_≡_, refl, sym, ap, ap₂, _∙_}
@@ -17,11 +18,11 @@ use lib.Dec.{eqb, ltb}
 use lib.Pow.{pow-mono}
 use borrow.Author.Tests.{lt-ltb, le-ltb, eqb-true, eqb-false, ltb-true, ltb-false}
 use Rattle.facts.proofs.Bools.{cases, same}
-use Rattle.sets.specs.Sets.{Set, has, union, single}
+use Rattle.sets.specs.Sets.{Set, has, union, single, size, TableOf}
 use Rattle.sets.proofs.Members.{has-union, has-single, single-is, has-empty, has-beyond, has-mod, has-div}
 use Rattle.network.specs.Links.{Links, linkedIn}
 use Rattle.network.specs.Split.{someBelow}
-use Rattle.network.specs.Weak.{Sources, SourcesOf, Joined, HalfTable}
+use Rattle.network.specs.Weak.{Sources, SourcesOf, Joined, HalfTable, Tables}
 use Rattle.network.specs.Proper.{Proper}
 use Rattle.network.proofs.Neighbours.{someBelow-same}
 
@@ -111,12 +112,16 @@ rows-turn links v rows r k row so =
     below x h o u = let g = getD-set-other rows v x row 0 o in ap (λ (z : ℕ). has z u) g ∙ r .made x (omega arith) u
 
 -- a proper network has links from servers of V alone
-pub sources-proper : (n f : ℕ) (links : Links) (rows : List ℕ) → Proper n f links → ((v : ℕ) → v < 8 → SourcesOf links v 8 (getD rows v 0)) → Sources n links rows
+sources-proper : (n f : ℕ) (links : Links) (rows : List ℕ) → Proper n f links → ((v : ℕ) → v < 8 → SourcesOf links v 8 (getD rows v 0)) → Sources n links rows
 sources-proper n f links rows p r v h u =
     r v h u
     ∙ cases (linkedIn links u v)
     (λ e. let a = p .from u v e in let m = p .most in let x = lt-ltb u 8 (omega arith) in let y = lt-ltb u n a in cc)
     (λ e. cases (ltb u 8) (λ x. cases (ltb u n) (λ y. cc) (λ y. cc)) (λ x. cases (ltb u n) (λ y. cc) (λ y. cc)))
+
+pub tables-of : (n f : ℕ) (links : Links) (rows sizes lower upper : List ℕ) → Proper n f links → ((v : ℕ) → v < 8 → SourcesOf links v 8 (getD rows v 0))
+    → TableOf size sizes → HalfTable rows 0 lower → HalfTable rows 4 upper → Tables n links sizes lower upper
+tables-of n f links rows sizes lower upper p r s l u = record { rows = rows; sources = sources-proper n f links rows p r; sized = s; low = l; high = u }
 
 -- into_half
 

@@ -95,7 +95,7 @@ module _ (s : List ℕ) (end : ℕ) (w : end + 1 ≡ length (path (take 8 s))) (
   pub receiver-is : carriageOf (path (take 8 s)) .receiver ≡ getD s end 0
   receiver-is = ap (λ (x : ℕ). getD (path (take 8 s)) x 0) last-is ∙ server-is end (omega arith)
 
-  pub brought-is : (X : ℕ) (table : List ℕ) (k : ℕ) (source : ℕ → ℕ) (b : Bool) → b ≡ hit X (take end s) → 1 ≤ end
+  brought-is : (X : ℕ) (table : List ℕ) (k : ℕ) (source : ℕ → ℕ) (b : Bool) → b ≡ hit X (take end s) → 1 ≤ end
       → (r : ℕ) → r ≡ cond b (message table k) (source (getD s 0 0)) → r ≡ brought X table k source (carriageOf (path (take 8 s)))
   unfolding brought
   brought-is X table k source b p one r q =
@@ -168,17 +168,19 @@ module _ {X : ℕ} {table : List ℕ} {first : ℕ} {source : ℕ → ℕ} {bloc
       pub route-receiver : getD (operand block at) end 0 < 8
       route-receiver = server-below end (omega arith)
 
-      pub arrivals-go : (arrival : ℕ) (next : Against) → arrival ≡ brought X table (first + k) source (carriageOf (path (take 8 (operand block at))))
-          → Adds against (λ (i : ℕ). cond (eqb (getD (operand block at) end 0) i) (arrival ∷ []) []) next
+      pub arrivals-go : (b : Bool) → b ≡ hit X (take end (operand block at)) → 1 ≤ end
+          → (arrival : ℕ) → arrival ≡ cond b (message table (first + k)) (source (getD (operand block at) 0 0))
+          → (next : Against) → Adds against (λ (i : ℕ). cond (eqb (getD (operand block at) end 0) i) (arrival ∷ []) []) next
           → Arriving X table first source block count whole next (at + 9) (k + 1)
-      arrivals-go arrival next p q =
+      arrivals-go b e one arrival p next q =
           let o = operand block at in
+          let brings = brought-is o end w few X table (first + k) source b e one arrival p in
           let y : first + (k + 1) ≡ suc (first + k) = omega arith in
           let later = map carriageOf (routesAt block (at + 9) (count - (k + 1))) in
-          let e = rw routes-next at (so .same) in
+          let all = rw routes-next at (so .same) in
           record {
             most = omega arith;
             fits = let f = so .fits in omega arith;
             servers = servers-later;
-            same = rw y (λ b a. e b (adds-then against next b _ _ _ q a (heard-next X table (first + k) source (carriageOf (path (take 8 o))) later (getD o end 0) arrival (receiver-is o end w few) p)));
+            same = rw y (λ b a. all b (adds-then against next b _ _ _ q a (heard-next X table (first + k) source (carriageOf (path (take 8 o))) later (getD o end 0) arrival (receiver-is o end w few) brings)));
           }

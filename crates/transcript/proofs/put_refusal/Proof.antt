@@ -1,4 +1,5 @@
--- `transcript::put_refusal` meets its contract. The words are joined. Assumes nothing.
+-- `transcript::put_refusal` meets its contract. The words are joined: each return is one lemma of `Lines`, and `search` finds the words that it
+-- asks for. Assumes nothing.
 use Rattle.transcript.specs.Text.{refusedWord, callWord, gap, newline}
 use Rattle.transcript.proofs.Lines.{refusal-call, refusal-file}
 use borrow.Author.Needs.{needs}
@@ -49,17 +50,10 @@ put-requires-3 c κs = search needs
 same-length : tie.Need-same-length
 same-length c = search needs
 
+-- the line of a refused call
 returns : tie.Need-returns
 unfolding refusedWord callWord newline
-returns c =
-    let fourth = c .before .before in
-    let third = fourth .before .before .before .before .before in
-    let second = third .before .before .before .before in
-    let test = second .before .before .before in
-    let whose = test .before in
-    let number = whose .before .before in
-    let first = number .before .before .before in
-    refusal-call _ (whose .whose .ensures) (number .number .ensures) (test .if1 .taken) (first .put .ensures) (second .put2 .ensures) (third .put-number .ensures) (fourth .put3 .ensures)
+returns c = search refusal-call
 
 put-file-requires : tie.Need-put-file-requires
 put-file-requires c κs = search needs
@@ -85,20 +79,10 @@ put-requires-5 c κs = search needs
 same-length-2 : tie.Need-same-length-2
 same-length-2 c = search needs
 
+-- the line of a refused card or plan
 returns-2 : tie.Need-returns-2
 unfolding refusedWord gap newline
-returns-2 c =
-    let sixth = c .before .before in
-    let fifth = sixth .before .before .before .before .before in
-    let fourth = fifth .before .before .before .before in
-    let third = fourth .before .before .before .before .before in
-    let second = third .before .before .before .before in
-    let test = second .before .before in
-    let whose = test .before in
-    let place = whose .before in
-    let number = place .before in
-    let first = number .before .before .before in
-    refusal-file _ (whose .whose .ensures) (number .number .ensures) (place .place .ensures) (test .if1 .left) (first .put .ensures) (second .put-file .ensures) (third .put-number2 .ensures) (fourth .put4 .ensures) (fifth .put-number3 .ensures) (sixth .put5 .ensures)
+returns-2 c = search refusal-file
 
 pub put-refusal-spec : {M : Type 1} → statement M
 put-refusal-spec =

@@ -1,15 +1,14 @@
 -- `network::split::first_bad` meets its contract. The invariants of its three scans, `Scan`, `Sides` and `Splits`, say that what is left to scan
--- gives the answer of the whole; the measures are what is left of the 2^n sets. Assumes nothing.
-use mathlib.Core.Path.{_≡_, refl, sym, ap, _∙_}
-use mathlib.Core.Logic.{_⊎_, inl, inr, ⊎-elim}
-use mathlib.Core.Bool.{Bool, true, false}
-use Prim.Native.Nat.{ℕ, _+_, _-_, _≤_, _<_}
-use native.Mathlib.Omega.{arith}
+-- gives the answer of the whole; the measures are what is left of the 2^n sets. Each need of a scan is one lemma of `Scans`, whose premises
+-- `search` finds. Assumes nothing.
+use mathlib.Core.Path.{_≡_, refl, ap, _∙_}
+use mathlib.Core.Logic.{⊎-elim}
+use Prim.Native.Nat.{_-_}
 use borrow.Author.Needs.{needs}
 use Rattle.network.specs.declared.split.SplitAnswer.{SplitAnswer}
 use Rattle.network.specs.Answers.{splitAnswerOf}
 use Rattle.network.specs.Weak.{Tables}
-use Rattle.network.proofs.SourceRows.{sources-proper}
+use Rattle.network.proofs.SourceRows.{tables-of}
 use Rattle.network.proofs.Scans.{Scan, Sides, Splits, limit-of, scan-starts, scan-ends, scan-past, sides-start, sides-end, sides-past, splits-start, splits-end, splits-past, splits-hit, sides-fall, splits-fall}
 use Rattle.network.proofs.split.first_bad.Statement.{statement}
 use Rattle.network.proofs.split.first_bad.Tie as tie
@@ -25,7 +24,7 @@ use Rattle.sets.proofs.sizes.Reads as sizes-reads
 use Rattle.sets.proofs.union.Reads as union-reads
 
 abbrev Inv-loop2 : tie.InvT-loop2
-Inv-loop2 n f lower upper sizes servers limit found₀ i fault at j left busy k₀ found k = (found ≡ SplitAnswer.Good) × Splits n f limit sizes lower upper i j k
+Inv-loop2 n f lower upper sizes servers limit found₀ i fault at j left busy k₀ found k = (found ≡ SplitAnswer.Good) × Splits n f limit sizes lower upper i j busy k
 
 abbrev μ-loop2 : tie.MeasureT-loop2
 μ-loop2 n f lower upper sizes servers limit found₀ i fault at j left busy k₀ found k = limit - k
@@ -41,6 +40,12 @@ Inv-scan n f lower upper sizes servers limit found₀ i₀ found i = (found ≡ 
 
 abbrev μ-scan : tie.MeasureT-scan
 μ-scan n f lower upper sizes servers limit found₀ i₀ found i = limit - i
+
+-- the tables are made: they are those of the links
+tables : (c : tie.After-full Inv-loop2 μ-loop2 Inv-loop μ-loop Inv-scan μ-scan) →
+    let a = c .before .before .before .before .before .args in
+    Tables (a .n) (a .links) (c .before .sizes .result) (c .before .before .before .half-table .result) (c .before .before .half-table2 .result)
+tables c = search tables-of
 
 source-rows-requires :
     tie.Need-source-rows-requires Inv-loop2 μ-loop2 Inv-loop μ-loop Inv-scan μ-scan
@@ -67,7 +72,7 @@ add-limit : tie.Need-add-limit Inv-loop2 μ-loop2 Inv-loop μ-loop Inv-scan μ-s
 add-limit c = search needs
 
 scan-holds : tie.Need-scan-holds Inv-loop2 μ-loop2 Inv-loop μ-loop Inv-scan μ-scan
-scan-holds c = (refl, scan-starts _ _ _ _ _ _ (c .before .before .before .before .before .pre .most) (limit-of _ _ (c .before .before .before .before .before .pre .most) (c .full .ensures)))
+scan-holds c = search (scan-starts, limit-of)
 
 cast-fault : tie.Need-cast-fault Inv-loop2 μ-loop2 Inv-loop μ-loop Inv-scan μ-scan
 cast-fault c = search needs
@@ -83,10 +88,7 @@ next-apart-requires :
 next-apart-requires c κs = search needs
 
 loop-holds : tie.Need-loop-holds Inv-loop2 μ-loop2 Inv-loop μ-loop Inv-scan μ-scan
-loop-holds c = let l = c .before .before .before .scan in (
-  l .inv .0,
-  sides-start _ _ _ _ _ _ _ (l .inv .1) (c .before .before .scan-test .taken) _ (c .before .before .before .before .before .sizes .ensures .entry (l .i) (search needs)) (c .before .if1 .taken) _ (c .next-apart .ensures),
-)
+loop-holds c = search (needs, sides-start)
 
 cast-left : tie.Need-cast-left Inv-loop2 μ-loop2 Inv-loop μ-loop Inv-scan μ-scan
 cast-left c = search needs
@@ -102,10 +104,7 @@ next-apart-requires-2 :
 next-apart-requires-2 c κs = search needs
 
 loop2-holds : tie.Need-loop2-holds Inv-loop2 μ-loop2 Inv-loop μ-loop Inv-scan μ-scan
-loop2-holds c = let l = c .before .before .before .before .before .before .before .before .loop in (
-  l .inv .0,
-  splits-start _ _ _ _ _ _ _ _ (l .inv .1) (c .before .before .before .before .before .before .before .loop-test .taken) _ (c .before .before .before .is-weak .ensures) (c .before .before .if2 .taken) _ _ (c .before .union .ensures) (c .next-apart2 .ensures),
-)
+loop2-holds c = search (needs, splits-start)
 
 cast-right : tie.Need-cast-right Inv-loop2 μ-loop2 Inv-loop μ-loop Inv-scan μ-scan
 cast-right c = search needs
@@ -127,27 +126,21 @@ next-apart-requires-3 :
 next-apart-requires-3 c κs = search needs
 
 loop2-less : tie.Need-loop2-less Inv-loop2 μ-loop2 Inv-loop μ-loop Inv-scan μ-scan
-loop2-less c = splits-fall _ _ _ _ _ _ _ _ _ _ _ (c .before .before .before .before .before .before .before .loop2 .inv .1) (c .before .before .before .before .before .before .loop2-test .taken) (c .before .before .before .before .before .before .before .before .before .union .ensures) (c .next-apart3 .ensures)
+loop2-less c = search splits-fall
 
 loop2-again : tie.Need-loop2-again Inv-loop2 μ-loop2 Inv-loop μ-loop Inv-scan μ-scan
-loop2-again c = let l = c .before .before .before .before .before .before .before .loop2 in (
-  l .inv .0,
-  splits-past _ _ _ _ _ _ _ _ _ (l .inv .1) (c .before .before .before .before .before .before .loop2-test .taken) _ (c .before .before .is-weak2 .ensures) (c .before .if3 .left) _ _ (c .before .before .before .before .before .before .before .before .before .union .ensures) (c .next-apart3 .ensures),
-)
+loop2-again c = search (needs, splits-past)
 
 next-apart-requires-4 :
     tie.Need-next-apart-requires-4 Inv-loop2 μ-loop2 Inv-loop μ-loop Inv-scan μ-scan
 next-apart-requires-4 c κs = search needs
 
 loop-less : tie.Need-loop-less Inv-loop2 μ-loop2 Inv-loop μ-loop Inv-scan μ-scan
-loop-less c = sides-fall _ _ _ _ _ _ _ _ _ (c .before .before .before .before .before .before .before .loop .inv .1) (c .before .before .before .before .before .before .loop-test .taken) (c .next-apart4 .ensures)
+loop-less c = search sides-fall
 
+-- L was weak, and every R has been tried; or it was not
 loop-again : tie.Need-loop-again Inv-loop2 μ-loop2 Inv-loop μ-loop Inv-scan μ-scan
-loop-again c = let l = c .before .before .before .before .before .before .before .loop in
-    ⊎-elim
-    (λ w. (w .5 ∙ w .3 .inv .0, splits-end _ _ _ _ _ _ _ _ _ (w .3 .inv .1) (w .4 .left) _ (c .next-apart4 .ensures)))
-    (λ w. (w .1 ∙ l .inv .0, sides-past _ _ _ _ _ _ _ _ (l .inv .1) (c .before .before .before .before .before .before .loop-test .taken) _ (c .before .before .is-weak .ensures) (w .0 .left) _ (c .next-apart4 .ensures)))
-    (c .before .if2 .came)
+loop-again c = ⊎-elim (λ w. search (needs, splits-end)) (λ w. search (needs, sides-past)) (c .before .if2 .came)
 
 add-i : tie.Need-add-i Inv-loop2 μ-loop2 Inv-loop μ-loop Inv-scan μ-scan
 add-i c = search needs
@@ -155,35 +148,19 @@ add-i c = search needs
 scan-less : tie.Need-scan-less Inv-loop2 μ-loop2 Inv-loop μ-loop Inv-scan μ-scan
 scan-less c = search needs
 
+-- F was small, and every L has been tried; or it was not
 scan-again : tie.Need-scan-again Inv-loop2 μ-loop2 Inv-loop μ-loop Inv-scan μ-scan
-scan-again c = let l = c .before .before .scan in
-    ⊎-elim
-    (λ w. (w .4 ∙ w .2 .inv .0, sides-end _ _ _ _ _ _ _ _ (w .2 .inv .1) (w .3 .left)))
-    (λ w. (w .1 ∙ l .inv .0, scan-past _ _ _ _ _ _ _ (l .inv .1) (c .before .scan-test .taken) _ (c .before .before .before .before .sizes .ensures .entry (l .i) (search needs)) (w .0 .left)))
-    (c .if1 .came)
-
--- with the tables made, they are those of the links
-tables : (c : tie.After-full Inv-loop2 μ-loop2 Inv-loop μ-loop Inv-scan μ-scan)
-    → Tables (c .before .before .before .before .before .args .n) (c .before .before .before .before .before .args .links) (c .before .sizes .result) (c .before .before .before .half-table .result) (c .before .before .half-table2 .result)
-tables c =
-    let r = c .before .before .before .before .source-rows in
-    record {
-      rows = r .result;
-      sources = sources-proper _ _ _ (r .result) (c .before .before .before .before .before .pre) (r .ensures);
-      sized = c .before .sizes .ensures;
-      low = c .before .before .before .half-table .ensures;
-      high = c .before .before .half-table2 .ensures;
-    }
+scan-again c = ⊎-elim (λ w. search (needs, sides-end)) (λ w. search (needs, scan-past)) (c .if1 .came)
 
 returns : tie.Need-returns Inv-loop2 μ-loop2 Inv-loop μ-loop Inv-scan μ-scan
-returns c = ap splitAnswerOf (c .before .scan .inv .0)
-    ∙ scan-ends _ _ _ _ _ _ _ (c .before .scan .inv .1) (c .scan-test .left) _
-    (tables (c .before .before))
+returns c = ap splitAnswerOf (c .before .scan .inv .0) ∙ search (scan-ends, tables)
 
+-- L and R are weak
 returns-2 : tie.Need-returns-2 Inv-loop2 μ-loop2 Inv-loop μ-loop Inv-scan μ-scan
-returns-2 c = splits-hit _ _ _ _ _ _ _ _ _ (c .before .before .before .before .before .before .before .before .before .loop2 .inv .1) (c .before .before .before .before .before .before .before .before .loop2-test .taken) _ (c .before .before .before .before .is-weak2 .ensures) (c .before .before .before .if3 .taken)
-    _ _ _ _ (c .before .before .before .before .before .before .before .before .before .before .before .before .before .before .before .before .before .before .before .before .before .before .before .full .ensures) (c .before .before .minus .ensures) (c .before .union2 .ensures) (c .minus2 .ensures) _
-    (tables (c .before .before .before .before .before .before .before .before .before .before .before .before .before .before .before .before .before .before .before .before .before .before .before))
+returns-2 c =
+    let tested = c .before .before .before .before in
+    let turn = tested .before .before .before .before in
+    splits-hit _ _ _ _ _ _ (turn .before .loop2 .inv .1) (turn .loop2-test .taken) (tested .is-weak2 .ensures) (search needs) _ refl (c .before .before .minus .ensures) (c .before .union2 .ensures) (c .minus2 .ensures) (search tables)
 
 pub first-bad-spec : {M : Type 1} → statement M
 first-bad-spec =

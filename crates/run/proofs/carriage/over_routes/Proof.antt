@@ -1,5 +1,5 @@
 -- `run::carriage::over_routes` meets its contract. The invariant of its loop: with what the routes left bring, what is held becomes what the whole speaks
--- against. The measure is how many routes are left. Assumes nothing.
+-- against. The measure is how many routes are left. What a turn needs are lemmas of `Carried`; `search` finds their premises. Assumes nothing.
 use borrow.Author.Needs.{needs}
 use mathlib.Core.List.{map}
 use Prim.Native.Nat.{_-_, _<_}
@@ -9,7 +9,7 @@ use Rattle.steps.specs.Hearing.{heard}
 use Rattle.steps.specs.Steps.{held}
 use Rattle.run.specs.Speaking.{worksOf}
 use Rattle.run.proofs.Speaking.{speaks-packed}
-use Rattle.run.proofs.Carried.{brought-is, route-wide, route-two, route-source, route-receiver, Arriving, arrivals-start, arrivals-go, arrivals-end}
+use Rattle.run.proofs.Carried.{route-wide, route-two, route-source, route-receiver, Arriving, arrivals-start, arrivals-go, arrivals-end}
 use Rattle.run.proofs.carriage.over_routes.Statement.{statement}
 use Rattle.run.proofs.carriage.over_routes.Tie as tie
 use Rattle.run.proofs.carriage.over_routes.Reads as reads
@@ -26,7 +26,7 @@ abbrev μ-loop : tie.MeasureT-loop
 μ-loop faulty table first sure ones block place count zero₀ one₀ at₀ k₀ zero one at k = count - k
 
 loop-holds : tie.Need-loop-holds Inv-loop μ-loop
-loop-holds c = (arrivals-start _ _ _ _ _ _ _ (c .before .before .pre .0) (c .before .before .pre .1), omega arith, omega arith)
+loop-holds c = search (arrivals-start, arith)
 
 add-operand-at : tie.Need-add-operand-at Inv-loop μ-loop
 add-operand-at c = search needs
@@ -40,25 +40,26 @@ part-operand-start c = search needs
 part-operand-end : tie.Need-part-operand-end Inv-loop μ-loop
 part-operand-end c = search needs
 
+-- the operand of the next route has eight bytes, and servers in two of them at least
 walked-requires : tie.Need-walked-requires Inv-loop μ-loop
-walked-requires c κs = (route-wide (c .before .before .loop .inv .0) (c .before .loop-test .taken), route-two (c .before .before .loop .inv .0) (c .before .loop-test .taken))
+walked-requires c κs = search (route-wide, route-two)
 
 add-brought : tie.Need-add-brought Inv-loop μ-loop
 add-brought c = search needs
 
 shared-slice-read-brought : tie.Need-shared-slice-read-brought Inv-loop μ-loop
-shared-slice-read-brought c = let w = route-wide (c .before .before .before .before .loop .inv .0) (c .before .before .before .loop-test .taken) in omega arith
+shared-slice-read-brought c = search needs
 
+-- the first of them is its source
 brought-requires : tie.Need-brought-requires Inv-loop μ-loop
-brought-requires c κs = let e = c .before .walked .ensures in route-source (c .before .before .before .before .loop .inv .0) (c .before .before .before .loop-test .taken) _ (e .0) (e .2)
+brought-requires c κs = search route-source
 
 shared-slice-read-spoken : tie.Need-shared-slice-read-spoken Inv-loop μ-loop
-shared-slice-read-spoken c = let w = route-wide (c .before .before .before .before .before .before .loop .inv .0) (c .before .before .before .before .before .loop-test .taken) in
-    let e = c .before .before .before .walked .ensures in
-    omega arith
+shared-slice-read-spoken c = search needs
 
+-- and the last its receiver
 spoken-requires : tie.Need-spoken-requires Inv-loop μ-loop
-spoken-requires c κs = let e = c .before .before .before .walked .ensures in route-receiver (c .before .before .before .before .before .before .loop .inv .0) (c .before .before .before .before .before .loop-test .taken) _ (e .0) (e .2)
+spoken-requires c κs = search route-receiver
 
 add-at : tie.Need-add-at Inv-loop μ-loop
 add-at c = search needs
@@ -69,24 +70,24 @@ add-k c = search needs
 loop-less : tie.Need-loop-less Inv-loop μ-loop
 loop-less c = search needs
 
+-- what is left after one route more
 loop-again : tie.Need-loop-again Inv-loop μ-loop
-loop-again c = let e = c .before .before .before .before .walked .ensures in
-    (arrivals-go (c .before .before .before .before .before .before .before .loop .inv .0) (c .before .before .before .before .before .before .loop-test .taken) _ (e .0) (e .2) _ _ (brought-is _ _ (e .0) (e .2) _ _ _ _ _ (e .3) (e .1) _ (c .before .before .brought .ensures)) (c .spoken .ensures), search needs, search needs)
+loop-again c = search (needs, arrivals-go)
 
 cast-result : tie.Need-cast-result Inv-loop μ-loop
-cast-result c = let i = c .before .loop .inv in search needs
+cast-result c = search needs
 
 mul-result : tie.Need-mul-result Inv-loop μ-loop
-mul-result c = let i = c .before .loop .inv in search needs
+mul-result c = search needs
 
 cast-result-2 : tie.Need-cast-result-2 Inv-loop μ-loop
-cast-result-2 c = let i = c .before .loop .inv in search needs
+cast-result-2 c = search needs
 
 add-result : tie.Need-add-result Inv-loop μ-loop
-add-result c = let i = c .before .loop .inv in search needs
+add-result c = search needs
 
 returns : tie.Need-returns Inv-loop μ-loop
-returns c = speaks-packed _ _ _ (c .before .loop .inv .1) (arrivals-end (c .before .loop .inv .0) (c .loop-test .left))
+returns c = search (speaks-packed, arrivals-end)
 
 pub over-routes-spec : {M : Type 1} → statement M
 over-routes-spec =
