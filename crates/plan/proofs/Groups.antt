@@ -49,17 +49,18 @@ part-rest s m = take-all (length s - m) (drop m s) (simp length-drop (omega arit
 abbrev pub Point : Type 1
 Point = (n : ℕ) (links : Links) (F : ℕ) (s : List ℕ) (g : Group) (k at carriages used : ℕ) (whole : Progress) → Type 0
 
--- all of the route is to test
-pub record FromCommand (n : ℕ) (links : Links) (F : ℕ) (s : List ℕ) (g : Group) (k at carriages used : ℕ) (whole : Progress) : Type 0 where
-  pub gives : checkGroup n links F s g (suc k) at carriages used ≡ whole
+module _ (n : ℕ) (links : Links) (F : ℕ) (s : List ℕ) (g : Group) (k at carriages used : ℕ) (whole : Progress) where
+  -- all of the route is to test
+  pub record FromCommand : Type 0 where
+    pub gives : checkGroup n links F s g (suc k) at carriages used ≡ whole
 
--- its command is the one due, and the rules for one route are next
-pub record FromRoute (n : ℕ) (links : Links) (F : ℕ) (s : List ℕ) (g : Group) (k at carriages used : ℕ) (whole : Progress) : Type 0 where
-  pub long : at + 9 ≤ length s
-  pub gives : let others = minus (serversOf (path (routeAt s at))) (single (g .receiver)) in
-      cond (not (isRoute n links F (g .sources) (g .receiver) (routeAt s at))) (stopped 9 at)
-      (cond (not (eqb (meet used others) 0)) (stopped 10 at) (checkGroup n links F s g k (at + 9) (carriages + 1) (union used others)))
-      ≡ whole
+  -- its command is the one due, and the rules for one route are next
+  pub record FromRoute : Type 0 where
+    pub long : at + 9 ≤ length s
+    pub gives : let others = minus (serversOf (path (routeAt s at))) (single (g .receiver)) in
+        cond (not (isRoute n links F (g .sources) (g .receiver) (routeAt s at))) (stopped 9 at)
+        (cond (not (eqb (meet used others) 0)) (stopped 10 at) (checkGroup n links F s g k (at + 9) (carriages + 1) (union used others)))
+        ≡ whole
 
 -- it is sound, `others` are its servers but for the receiver, and what it shares is next
 pub record FromSharing (others n : ℕ) (links : Links) (F : ℕ) (s : List ℕ) (g : Group) (k at carriages used : ℕ) (whole : Progress) : Type 0 where
