@@ -1,5 +1,5 @@
 -- The loop over the separate routes to one receiver: what is left of the group from here gives the answer of the whole.
---     whole-command   a command that is not cut off
+--     whole-..        a command that is not cut off
 --     FromCommand, FromRoute, FromSharing   the points of the test of one route
 --     group-..        what the test of the command gives
 --     route-..        what the tests of the route give
@@ -39,6 +39,11 @@ whole-command s at w e q =
 
     inside : ltb at (length s) ≡ true → at < length s
     inside h = borrow.Author.Tests.ltb-true at (length s) h
+
+-- the opening of a block that is not cut off has its operands
+pub whole-opening : (s : List ℕ) → isCut s 0 ≡ false → getD s 0 0 ≡ 16 → 4 ≤ length s
+unfolding width
+whole-opening s e k = let z = whole-command s 0 4 e (ap width k) in omega arith
 
 -- a part up to the end is what is left
 pub part-rest : (s : List ℕ) (m : ℕ) → take (length s - m) (drop m s) ≡ drop m s

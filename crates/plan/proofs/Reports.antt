@@ -15,9 +15,10 @@ use borrow.Author.Tests.{eq-eqb, ne-eqb}
 use Rattle.sets.specs.Sets.{has, minus, within, full, size}
 use Rattle.network.specs.Links.{Links, linkedIn}
 use Rattle.plan.specs.Members.{listFrom, members}
-use Rattle.plan.specs.Check.{reached, stopped, andThen, width, isCut, isDue, allLinked, isReport, checkReports}
+use Rattle.plan.specs.Check.{reached, stopped, width, isCut, isDue, allLinked, isReport, checkReports}
 use Rattle.plan.proofs.Groups.{whole-command}
 use Rattle.plan.proofs.Walks.{walk, list-next, list-skip, list-done, reportStep, reports-walk}
+use Rattle.plan.specs.Check.{andThen}
 
 module _ (links : Links) (k set : ℕ) where
   pub linked-starts : allLinked links k (listFrom (8 - 0) 0 (has set)) ≡ allLinked links k (members set)

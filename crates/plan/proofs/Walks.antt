@@ -18,7 +18,7 @@ use Rattle.network.specs.Links.{Links}
 use Rattle.plan.specs.Members.{listFrom}
 use Rattle.plan.specs.Due.{isPart, blocksOf, blocksOfAll, fan, toOne, pairs}
 use Rattle.plan.specs.Check.{Progress, reached, stopped, andThen, onward, isCut, isDue, isReport, checkGroup, checkGroups, checkReports, checkBlock, checkBlocks}
-use Rattle.plan.specs.Answers.{groupOf}
+use Rattle.plan.specs.Answers.{progressOf, groupOf}
 use Rattle.plan.proofs.Joins.{then-same, groups-append, blocks-append}
 
 unfoldable pub walk : (ℕ → ℕ → ℕ → Progress) → List ℕ → (at carriages : ℕ) → Progress
