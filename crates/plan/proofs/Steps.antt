@@ -2,7 +2,7 @@
 --     Cutting, cutting-..   the loop over the parts of V−F: the blocks of those ahead give the answer of all
 --     PartDue, block-..     a turn in which a part is due, and what the block check's answer says there
 -- Assumes nothing.
-use mathlib.Core.Path.{_≡_, refl, sym, ap, _∙_}
+use mathlib.Core.Path.{_≡_, sym, ap, _∙_}
 use mathlib.Core.Bool.{Bool, true, false}
 use mathlib.Core.List.{List, _∷_}
 use Prim.Native.Nat.{ℕ, _+_, _-_, _*_, _^_, _≤_, _<_, min}
@@ -14,7 +14,7 @@ use Rattle.sets.specs.Sets.{minus, full}
 use Rattle.network.specs.Links.{Links}
 use Rattle.plan.specs.Members.{listFrom}
 use Rattle.plan.specs.Due.{isPart, blocksOf}
-use Rattle.plan.specs.Check.{Progress, reached, stopped, onward, checkBlock, checkBlocks}
+use Rattle.plan.specs.Check.{reached, onward, checkBlock, checkBlocks}
 use Rattle.plan.specs.Answers.{progressOf, dueOf}
 use Rattle.plan.specs.declared.check.Progress as Code
 use Rattle.plan.proofs.Groups.{part-rest}
