@@ -1,20 +1,21 @@
 -- The place that a check reaches lies within the plan, and the carriages are bounded by the bytes, so that no sum overflows.
 --     Bound m limit     the place is at most `limit`, the carriages at most m for a byte; a refusal has a place within it, and is not that of the length
---     turn-..           one turn of a loop
+--     Walking, walking-..   a loop that takes the check one step on in a turn: what is left from here gives the answer of the whole
 --     ..-bound          each check keeps the bound
 -- Assumes nothing.
 use mathlib.Core.Path.{_≡_, refl, sym, ap, _∙_}
-use mathlib.Core.Bool.{Bool, true, false, not, _&&_, _||_}
+use mathlib.Core.Bool.{false, not, _&&_, _||_}
 use mathlib.Core.List.{List, [], _∷_, _++_}
-use Prim.Native.Nat.{ℕ, zero, suc, _+_, _-_, _*_, _≤_, _<_}
+use Prim.Native.Nat.{ℕ, zero, suc, _+_, _*_, _≤_, _<_}
 use native.Mathlib.Omega.{arith}
 use lib.ListN.{length, getD, drop, length-drop}
 use lib.Dec.{eqb}
 use borrow.Author.Tests.{eqb-true}
 use Rattle.facts.proofs.Bools.{by-cond}
-use Rattle.sets.specs.Sets.{Set, meet, minus, full, within, single}
+use Rattle.refusal.specs.declared.PlanGround.{PlanGround}
+use Rattle.sets.specs.Sets.{meet, minus, full, within, single}
 use Rattle.network.specs.Links.{Links}
-use Rattle.plan.specs.Members.{members, listFrom}
+use Rattle.plan.specs.Members.{members}
 use Rattle.plan.specs.Due.{DueBlock, Group, blocksOf, fan, toOne, pairs, routesDue}
 use Rattle.route.specs.Route.{isRoute, path, serversOf}
 use Rattle.route.specs.Commands.{width, isCut}
@@ -23,7 +24,7 @@ use Rattle.plan.specs.Answers.{progressOf, groupOf}
 use Rattle.plan.specs.declared.check.Progress as Code
 use Rattle.plan.proofs.Groups.{whole-command}
 use Rattle.plan.proofs.Joins.{groups-append}
-use Rattle.plan.proofs.Walks.{walk, walk-skips, walk-moves, fanStep, fan-walk, toOneStep, toOne-walk, rowStep, pairs-walk, reportStep, reports-walk, blockStep, cuts-walk}
+use Rattle.plan.proofs.Walks.{walk, fanStep, fan-walk, toOneStep, toOne-walk, rowStep, pairs-walk, reportStep, reports-walk, blockStep, cuts-walk}
 
 abbrev pub Bound : (m limit : ℕ) → Progress → Type 0
 Bound m limit (reached at carriages) = (at ≤ limit) × (carriages ≤ m * at)
@@ -57,19 +58,38 @@ bound-more limit (stopped number place) b = b
 pub code-bound : (m limit : ℕ) (x : Progress) → Bound m limit x → (y : Code.Progress) → progressOf y ≡ x → (a c : ℕ) → y ≡ Code.Progress.Reached a c → (a ≤ limit) × (c ≤ m * a)
 code-bound m limit x b y z a c r = let e : x ≡ reached a c = sym z ∙ ap progressOf r in rw e at b
 
--- one turn of a loop over the numbers below a limit: the next number, and what is left from there
-module _ (m len : ℕ) (step : ℕ → ℕ → ℕ → Progress) (limit : ℕ) (p : Set) (whole : Progress) (i at carriages : ℕ)
-    (so : walk step (listFrom (limit - i) i p) at carriages ≡ whole) (h : i < limit) (b : Bool) (e : b ≡ p i) (at′ carriages′ : ℕ) where
-  pub turn-skips : b ≡ false → at ≤ len → carriages ≤ m * at → at′ ≡ at → carriages′ ≡ carriages
-      → (i + 1 ≤ limit) × (at′ ≤ len) × (carriages′ ≤ m * at′) × (walk step (listFrom (limit - (i + 1)) (i + 1) p) at′ carriages′ ≡ whole)
-  turn-skips f x y q r = rw (q, r) (omega arith, x, y, walk-skips step limit p whole i at carriages so h b e f)
+-- the steps for a list that are left give the answer `whole`, and the place and the carriages keep the bound
+pub record Walking (m len : ℕ) (step : ℕ → ℕ → ℕ → Progress) (xs : List ℕ) (whole : Progress) (at carriages : ℕ) : Type 0 where
+  pub inside : at ≤ len
+  pub few : carriages ≤ m * at
+  pub gives : walk step xs at carriages ≡ whole
 
-  pub turn-moves : b ≡ true → (y : Code.Progress) → progressOf y ≡ step i at carriages → Bound m len (step i at carriages)
-      → (a c : ℕ) → y ≡ Code.Progress.Reached a c → at′ ≡ a → carriages′ ≡ c
-      → (i + 1 ≤ limit) × (at′ ≤ len) × (carriages′ ≤ m * at′) × (walk step (listFrom (limit - (i + 1)) (i + 1) p) at′ carriages′ ≡ whole)
-  turn-moves t y z k a c g q r =
-      let l = code-bound m len (step i at carriages) k y z a c g in
-      rw (q, r) (omega arith, l .0, l .1, walk-moves step limit p whole i at carriages so h b e t (step i at carriages) refl y z a c g)
+module _ {m len : ℕ} {step : ℕ → ℕ → ℕ → Progress} {xs : List ℕ} {whole : Progress} {at carriages : ℕ} (w : Walking m len step xs whole at carriages) where
+  pub walking-ends : xs ≡ [] → reached at carriages ≡ whole
+  unfolding walk
+  walking-ends e = let g = w .gives in rw e at g
+
+  pub walking-same : {ys : List ℕ} → xs ≡ ys → Walking m len step ys whole at carriages
+  walking-same e = rw e at w
+
+  module _ {x : ℕ} {ys : List ℕ} (e : xs ≡ x ∷ ys) where
+    next : andThen (step x at carriages) (λ (a c : ℕ). walk step ys a c) ≡ whole
+    unfolding walk
+    next = let g = w .gives in rw e at g
+
+    pub walking-stops : {number place : ℕ} → step x at carriages ≡ stopped number place → stopped number place ≡ whole
+    walking-stops r = rw r at next
+
+    pub walking-goes : Bound m len (step x at carriages) → {a c : ℕ} → step x at carriages ≡ reached a c → Walking m len step ys whole a c
+    walking-goes b r = let k = rw r at b in record { inside = k .0; few = k .1; gives = rw r at next }
+
+    -- the same for the code's progress
+    module _ {y : Code.Progress} (z : progressOf y ≡ step x at carriages) where
+      pub walking-halts : {g : PlanGround} → y ≡ Code.Progress.Stopped g → progressOf (Code.Progress.Stopped g) ≡ whole
+      walking-halts r = walking-stops (sym z ∙ ap progressOf r)
+
+      pub walking-moves : Bound m len (step x at carriages) → {a c : ℕ} → y ≡ Code.Progress.Reached a c → Walking m len step ys whole a c
+      walking-moves b r = walking-goes b (sym z ∙ ap progressOf r)
 
 module _ (n : ℕ) (links : Links) (F : ℕ) (s : List ℕ) where
   pub group-bound : (g : Group) → width (g .command) ≡ 9 → (k at carriages used : ℕ) → at ≤ length s → carriages ≤ 1 * at

@@ -1,4 +1,8 @@
 -- The loop over the separate routes to one receiver: what is left of the group from here gives the answer of the whole.
+--     whole-..        a command that is not cut off
+--     FromCommand, FromRoute, FromSharing   the points of the test of one route
+--     group-..        what the test of the command gives
+--     route-..        what the tests of the route give
 -- Assumes nothing.
 use mathlib.Core.Path.{_≡_, refl, sym, ap, _∙_}
 use mathlib.Core.Bool.{Bool, true, false, cond, not}
@@ -37,84 +41,102 @@ whole-command s at w e q =
     inside : ltb at (length s) ≡ true → at < length s
     inside h = borrow.Author.Tests.ltb-true at (length s) h
 
+-- the opening of a block that is not cut off has its operands
+pub whole-opening : (s : List ℕ) → isCut s 0 ≡ false → getD s 0 0 ≡ 16 → 4 ≤ length s
+unfolding width
+whole-opening s e k = let z = whole-command s 0 4 e (ap width k) in omega arith
+
 -- a part up to the end is what is left
 pub part-rest : (s : List ℕ) (m : ℕ) → take (length s - m) (drop m s) ≡ drop m s
 part-rest s m = take-all (length s - m) (drop m s) (simp length-drop (omega arith))
 
--- one route fewer
-pub one-less : (count k : ℕ) → k < count → (f : ℕ → Progress) (x : Progress) → f (count - k) ≡ x → f (suc (count - (k + 1))) ≡ x
-one-less count k h f x e = let z : count - k ≡ suc (count - (k + 1)) = omega arith in rw z at e
+-- Three points of the test of a route that k routes follow. At each, what is left to test gives the answer `whole`.
 
-module _ (n : ℕ) (links : Links) (F : ℕ) (s : List ℕ) (g : Group) (k at carriages used : ℕ) where
-  pub group-done : k ≡ 0 → reached at carriages ≡ checkGroup n links F s g k at carriages used
-  unfolding checkGroup
-  group-done z = sym (rw z refl)
+abbrev pub Point : Type 1
+Point = (n : ℕ) (links : Links) (F : ℕ) (s : List ℕ) (g : Group) (k at carriages used : ℕ) (whole : Progress) → Type 0
 
-  group-now : checkGroup n links F s g (suc k) at carriages used
-      ≡ isDue s at (g .command)
-      (cond (not (isRoute n links F (g .sources) (g .receiver) (routeAt s at))) (stopped 9 at)
-      (cond (not (eqb (meet used (minus (serversOf (path (routeAt s at))) (single (g .receiver)))) 0)) (stopped 10 at)
-      (checkGroup n links F s g k (at + 9) (carriages + 1) (union used (minus (serversOf (path (routeAt s at))) (single (g .receiver)))))))
-  unfolding checkGroup
-  group-now = refl
+module _ (n : ℕ) (links : Links) (F : ℕ) (s : List ℕ) (g : Group) (k at carriages used : ℕ) (whole : Progress) where
+  -- all of the route is to test
+  pub record FromCommand : Type 0 where
+    pub gives : checkGroup n links F s g (suc k) at carriages used ≡ whole
 
-  module _ (b : Bool) (p : b ≡ isCut s at) where
-    pub group-cut : b ≡ true → stopped 2 at ≡ checkGroup n links F s g (suc k) at carriages used
-    unfolding isDue
-    group-cut t = sym (group-now ∙ simp (sym p ∙ t))
+  -- its command is the one due, and the rules for one route are next
+  pub record FromRoute : Type 0 where
+    pub long : at + 9 ≤ length s
+    pub gives : let others = minus (serversOf (path (routeAt s at))) (single (g .receiver)) in
+        cond (not (isRoute n links F (g .sources) (g .receiver) (routeAt s at))) (stopped 9 at)
+        (cond (not (eqb (meet used others) 0)) (stopped 10 at) (checkGroup n links F s g k (at + 9) (carriages + 1) (union used others)))
+        ≡ whole
+
+-- it is sound, `others` are its servers but for the receiver, and what it shares is next
+pub record FromSharing (others n : ℕ) (links : Links) (F : ℕ) (s : List ℕ) (g : Group) (k at carriages used : ℕ) (whole : Progress) : Type 0 where
+  pub long : at + 9 ≤ length s
+  pub gives : cond (not (eqb (meet used others) 0)) (stopped 10 at) (checkGroup n links F s g k (at + 9) (carriages + 1) (union used others)) ≡ whole
+
+module _ {n : ℕ} {links : Links} {F : ℕ} {s : List ℕ} {g : Group} {k at carriages used : ℕ} {whole : Progress} where
+  module _ (t : FromCommand n links F s g k at carriages used whole) {b : Bool} (p : b ≡ isCut s at) where
+    pub group-cut : b ≡ true → stopped 2 at ≡ whole
+    unfolding checkGroup isDue
+    group-cut c = sym (simp (sym p ∙ c)) ∙ t .gives
 
     module _ (f : b ≡ false) where
-      pub group-other : (getD s at 0 ≡ g .command → ⊥) → stopped 7 at ≡ checkGroup n links F s g (suc k) at carriages used
-      unfolding isDue
-      group-other o = sym (group-now ∙ simp (sym p ∙ f, ne-eqb _ _ o))
+      pub group-inside : at < length s
+      group-inside = whole-command s at _ (sym p ∙ f) refl .0
 
-      module _ (e : getD s at 0 ≡ g .command) (w : width (g .command) ≡ 9) (r : List ℕ) (q : r ≡ checkedRoute n links F (g .sources) (g .receiver) (drop (at + 1) s)) where
-        wide : 8 ≤ length (drop (at + 1) s)
-        wide = let z = whole-command s at 9 (sym p ∙ f) (ap width e ∙ w) in simp length-drop (omega arith)
+      pub group-other : (getD s at 0 ≡ g .command → ⊥) → stopped 7 at ≡ whole
+      unfolding checkGroup isDue
+      group-other o = sym (simp (sym p ∙ f, ne-eqb _ _ o)) ∙ t .gives
 
-        pub group-route : length r ≡ 0 → stopped 9 at ≡ checkGroup n links F s g (suc k) at carriages used
-        unfolding isDue routeAt
-        group-route z =
-            let x : isRoute n links F (g .sources) (g .receiver) (take 8 (drop (at + 1) s)) ≡ false =
-            is-false (isRoute n links F (g .sources) (g .receiver) (take 8 (drop (at + 1) s)))
-            (λ y. let m = route-not-empty n links F (g .sources) (g .receiver) (drop (at + 1) s) wide y in let v = ap length q in omega arith) in
-            sym (group-now ∙ simp (sym p ∙ f, eq-eqb _ _ e, x))
+      pub group-due : getD s at 0 ≡ g .command → width (g .command) ≡ 9 → FromRoute n links F s g k at carriages used whole
+      unfolding checkGroup isDue
+      group-due e w = let z = whole-command s at 9 (sym p ∙ f) (ap width e ∙ w) in record { long = omega arith; gives = sym (simp (sym p ∙ f, eq-eqb _ _ e)) ∙ t .gives }
 
-        module _ (some : length r ≡ 0 → ⊥) where
-          sound : isRoute n links F (g .sources) (g .receiver) (take 8 (drop (at + 1) s)) ≡ true
-          unfolding checkedRoute
-          sound =
-              cases (isRoute n links F (g .sources) (g .receiver) (take 8 (drop (at + 1) s)))
-              (λ y. y)
-              (λ y. let x : checkedRoute n links F (g .sources) (g .receiver) (drop (at + 1) s) ≡ [] = simp (le-leb 8 (length (drop (at + 1) s)) wide, y) in absurd (some (ap length (q ∙ x))))
+  module _ (t : FromRoute n links F s g k at carriages used whole) {r : List ℕ} (q : r ≡ checkedRoute n links F (g .sources) (g .receiver) (take (length s - (at + 1)) (drop (at + 1) s))) where
+    wide : 8 ≤ length (drop (at + 1) s)
+    wide = let h = t .long in simp length-drop (omega arith)
 
-          path-is : r ≡ path (take 8 (drop (at + 1) s))
-          unfolding checkedRoute
-          path-is = q ∙ simp (le-leb 8 (length (drop (at + 1) s)) wide, sound)
+    checked : r ≡ checkedRoute n links F (g .sources) (g .receiver) (drop (at + 1) s)
+    checked = q ∙ ap (checkedRoute n links F (g .sources) (g .receiver)) (part-rest s (at + 1))
 
-          module _ (set one others shared : ℕ) (a : set ≡ serversOf r) (c : one ≡ single (g .receiver)) (d : others ≡ minus set one) (i : shared ≡ meet used others) where
-            others-is : others ≡ minus (serversOf (path (take 8 (drop (at + 1) s)))) (single (g .receiver))
-            others-is = let x = path-is in cc
+    pub route-wrong : length r ≡ 0 → stopped 9 at ≡ whole
+    unfolding routeAt
+    route-wrong z =
+        let x : isRoute n links F (g .sources) (g .receiver) (take 8 (drop (at + 1) s)) ≡ false =
+        is-false (isRoute n links F (g .sources) (g .receiver) (take 8 (drop (at + 1) s)))
+        (λ y. let m = route-not-empty n links F (g .sources) (g .receiver) (drop (at + 1) s) wide y in let v = ap length checked in omega arith) in
+        sym (simp x) ∙ t .gives
 
-            pub group-shared : (shared ≡ 0 → ⊥) → stopped 10 at ≡ checkGroup n links F s g (suc k) at carriages used
-            unfolding isDue routeAt
-            group-shared o =
-                let x : eqb (meet used (minus (serversOf (path (take 8 (drop (at + 1) s)))) (single (g .receiver)))) 0 ≡ false = ap (λ (y : ℕ). eqb (meet used y) 0) (sym others-is) ∙ ne-eqb (meet used others) 0 (λ z. o (i ∙ z)) in
-                sym (group-now ∙ simp (sym p ∙ f, eq-eqb _ _ e, sound, x))
+    module _ (some : length r ≡ 0 → ⊥) where
+      sound : isRoute n links F (g .sources) (g .receiver) (take 8 (drop (at + 1) s)) ≡ true
+      unfolding checkedRoute
+      sound =
+          cases (isRoute n links F (g .sources) (g .receiver) (take 8 (drop (at + 1) s)))
+          (λ y. y)
+          (λ y. let x : checkedRoute n links F (g .sources) (g .receiver) (drop (at + 1) s) ≡ [] = simp (le-leb 8 (length (drop (at + 1) s)) wide, y) in absurd (some (ap length (checked ∙ x))))
 
-            pub group-on : shared ≡ 0 → (used′ : ℕ) → used′ ≡ union used others
-                → checkGroup n links F s g k (at + 9) (carriages + 1) used′ ≡ checkGroup n links F s g (suc k) at carriages used
-            unfolding isDue routeAt
-            group-on z used′ v =
-                let x : eqb (meet used (minus (serversOf (path (take 8 (drop (at + 1) s)))) (single (g .receiver)))) 0 ≡ true = ap (λ (y : ℕ). eqb (meet used y) 0) (sym others-is) ∙ eq-eqb (meet used others) 0 (sym i ∙ z) in
-                ap (checkGroup n links F s g k (at + 9) (carriages + 1)) (v ∙ ap (union used) others-is) ∙ sym (group-now ∙ simp (sym p ∙ f, eq-eqb _ _ e, sound, x))
+      path-is : r ≡ path (take 8 (drop (at + 1) s))
+      unfolding checkedRoute
+      path-is = checked ∙ simp (le-leb 8 (length (drop (at + 1) s)) wide, sound)
 
--- a group of one route
-module _ (n : ℕ) (links : Links) (F : ℕ) (s : List ℕ) (g : Group) (at carriages : ℕ) where
-  pub group-one : (b : Bool) → b ≡ isCut s at → b ≡ false → getD s at 0 ≡ g .command → width (g .command) ≡ 9
-      → (r : List ℕ) → r ≡ checkedRoute n links F (g .sources) (g .receiver) (drop (at + 1) s) → (length r ≡ 0 → ⊥)
-      → reached (at + 9) (carriages + 1) ≡ checkGroup n links F s g 1 at carriages 0
-  group-one b p f e w r q some =
-      let others = minus (serversOf r) (single (g .receiver)) in
-      group-done n links F s g 0 (at + 9) (carriages + 1) (union 0 others) refl
-      ∙ group-on n links F s g 0 at carriages 0 b p f e w r q some (serversOf r) (single (g .receiver)) others (meet 0 others) refl refl refl refl (meet-nothing others) (union 0 others) refl
+      pub route-sound : {set one others : ℕ} → set ≡ serversOf r → one ≡ single (g .receiver) → others ≡ minus set one → FromSharing others n links F s g k at carriages used whole
+      unfolding routeAt
+      route-sound {set} {one} {others} a b c =
+          let x = path-is in
+          let y : others ≡ minus (serversOf (path (take 8 (drop (at + 1) s)))) (single (g .receiver)) = cc in
+          record { long = t .long; gives = rw y (sym (simp sound) ∙ t .gives) }
+
+  module _ {others : ℕ} (t : FromSharing others n links F s g k at carriages used whole) {shared : ℕ} (i : shared ≡ meet used others) where
+    pub route-shares : (shared ≡ 0 → ⊥) → stopped 10 at ≡ whole
+    route-shares o = sym (simp (ne-eqb (meet used others) 0 (λ z. o (i ∙ z)))) ∙ t .gives
+
+    pub route-apart : shared ≡ 0 → {used′ : ℕ} → used′ ≡ union used others → checkGroup n links F s g k (at + 9) (carriages + 1) used′ ≡ whole
+    route-apart z v = rw v (sym (simp (eq-eqb (meet used others) 0 (sym i ∙ z))) ∙ t .gives)
+
+pub group-done : (n : ℕ) (links : Links) (F : ℕ) (s : List ℕ) (g : Group) (k at carriages used : ℕ) → k ≡ 0 → reached at carriages ≡ checkGroup n links F s g k at carriages used
+unfolding checkGroup
+group-done n links F s g k at carriages used z = sym (rw z refl)
+
+-- a route that stands alone shares nothing
+pub route-alone : {n : ℕ} {links : Links} {F : ℕ} {s : List ℕ} {g : Group} {at carriages : ℕ} {whole : Progress} → FromRoute n links F s g 0 at carriages 0 whole
+    → {r : List ℕ} → r ≡ checkedRoute n links F (g .sources) (g .receiver) (take (length s - (at + 1)) (drop (at + 1) s)) → (length r ≡ 0 → ⊥) → reached (at + 9) (carriages + 1) ≡ whole
+route-alone t q some = group-done _ _ _ _ _ 0 _ _ _ refl ∙ route-apart (route-sound t q some refl refl refl) refl (meet-nothing _) refl

@@ -1,8 +1,8 @@
 -- Counts      how many blocks are due, computed from the definition
 -- Groups      the separate routes to one receiver
 -- Joins       checks in a row
--- Walks       loops over the members of a set, each taking the check one step on
--- Bounds      places and carriages stay within the plan's length
+-- Walks       the members of a set, each taking the check one step on
+-- Bounds      places and carriages stay within the plan's length; a loop along a walk
 -- Reports     the reports of a block
 -- Cuts        the ways of cutting V−F and the blocks that are due, counted
 -- Parts       the parts of a block, one after the other

@@ -2,7 +2,8 @@
 --     members-next    the lowest member, and then the members of what is left
 --     members-then    the same, with the numbers that the code has for them
 --     members-none    the empty set has none
---     set-..          the loop that takes them out: what is left from here gives the answer of the whole
+--     Taken           the lowest member taken out
+--     Taking, taking-..   the loop that takes them out: what is left from here gives the answer of the whole
 --     row-others      a route from each other server: the receiver may be left out of the sources
 -- Assumes nothing.
 use mathlib.Core.Path.{_≡_, refl, sym, ap, _∙_}
@@ -10,12 +11,12 @@ use mathlib.Core.Bool.{Bool, true, false, cond, not, _&&_}
 use mathlib.Core.List.{List, [], _∷_}
 use Prim.Native.Nat.{ℕ, zero, suc, _+_, _*_, _≤_, _<_}
 use native.Mathlib.Omega.{arith}
-use lib.ListN.{length}
+use lib.ListN.{length, getD}
 use lib.Dec.{eqb, ltb}
 use borrow.Author.Tests.{lt-ltb, eq-eqb, ne-eqb, eqb-true}
 use Rattle.facts.proofs.Bools.{cases, clash}
 use Rattle.refusal.specs.declared.PlanGround.{PlanGround}
-use Rattle.sets.specs.Sets.{Set, has, single, minus, lowest, firstIn}
+use Rattle.sets.specs.Sets.{Set, has, single, minus, lowest, firstIn, TableOf}
 use Rattle.sets.proofs.Members.{has-minus, has-single, has-empty, has-below, minus-small}
 use Rattle.sets.proofs.LowestMember.{lowest-in}
 use Rattle.network.specs.Links.{Links}
@@ -25,7 +26,7 @@ use Rattle.plan.specs.Answers.{progressOf}
 use Rattle.plan.specs.declared.check.Progress as Code
 use Rattle.plan.proofs.Joins.{then-same}
 use Rattle.plan.proofs.Walks.{walk, toOneStep, toOne-self}
-use Rattle.plan.proofs.Bounds.{Bound, code-bound}
+use Rattle.plan.proofs.Bounds.{Bound, Walking, walking-ends, walking-halts, walking-moves}
 
 -- tests that agree from lo on list the same
 list-same : (k lo : ℕ) (p q : Set) → ((i : ℕ) → lo ≤ i → p i ≡ q i) → listFrom k lo p ≡ listFrom k lo q
@@ -93,35 +94,47 @@ members-then left x one next h o a b c =
     let e : next ≡ minus left (single (lowest left)) = c ∙ ap (minus left) (b ∙ ap single a) in
     members-next left h o ∙ ap (λ (y : ℕ). y ∷ members (minus left (single (lowest left)))) (sym a) ∙ ap (λ (y : ℕ). x ∷ members y) (sym e)
 
--- the loop: `left` is the set of those that are left
+-- x is the lowest of the servers in `left`, and `next` are the others
+pub record Taken (left x next : ℕ) : Type 0 where
+  pub member : has left x ≡ true
+  pub server : x < 8
+  pub small : next < 256
+  pub rest : next ≡ minus left (single x)
+  pub split : members left ≡ x ∷ members next
 
-module _ (step : ℕ → ℕ → ℕ → Progress) (whole : Progress) (left at carriages : ℕ) (so : walk step (members left) at carriages ≡ whole) where
-  pub set-done : left ≡ 0 → reached at carriages ≡ whole
-  unfolding walk
-  set-done z = rw (z, members-none) at so
+-- as the code takes it out, by a table of the lowest servers
+pub take-lowest : {left one next : ℕ} {table : List ℕ} → left < 256 → (left ≡ 0 → ⊥) → TableOf lowest table → one ≡ single (getD table left 0) → next ≡ minus left one
+    → Taken left (getD table left 0) next
+take-lowest {left} {one} {next} {table} h o t a b =
+    let e = t .entry left h in
+    let m : has left (getD table left 0) ≡ true = ap (has left) e ∙ lowest-in left h o in
+    record { member = m; server = has-below 8 left _ h m; small = rw b (minus-small 8 left one h); rest = b ∙ ap (minus left) a; split = members-then left _ one next h o e a b }
 
-  module _ (h : left < 256) (o : left ≡ 0 → ⊥) (x one next : ℕ) (a : x ≡ lowest left) (b : one ≡ single x) (c : next ≡ minus left one) where
-    next-is : members left ≡ x ∷ members next
-    next-is = members-then left x one next h o a b c
+pub taken-less : {left x next : ℕ} → Taken left x next → length (members next) < length (members left)
+taken-less k = let e = ap length (k .split) in omega arith
 
-    pub set-less : length (members next) < length (members left)
-    set-less = let e = ap length next-is in omega arith
+-- the loop: the steps for the servers in `left` give the answer `whole`
+pub record Taking (m len : ℕ) (step : ℕ → ℕ → ℕ → Progress) (left : ℕ) (whole : Progress) (at carriages : ℕ) : Type 0 where
+  pub small : left < 256
+  pub walking : Walking m len step (members left) whole at carriages
+  pub bounded : (x a c : ℕ) → a ≤ len → c ≤ m * a → Bound m len (step x a c)
 
-    module _ (y : Code.Progress) (z : progressOf y ≡ step x at carriages) where
-      now : andThen (progressOf y) (λ (a′ c′ : ℕ). walk step (members next) a′ c′) ≡ whole
-      unfolding walk
-      now = rw z (rw next-is at so)
+pub taking-starts : {len : ℕ} {step : ℕ → ℕ → ℕ → Progress} {left : ℕ} {whole : Progress} {start before : ℕ} → left < 256 → before ≤ start → start ≤ len
+    → ((x a c : ℕ) → a ≤ len → c ≤ 1 * a → Bound 1 len (step x a c)) → whole ≡ walk step (members left) start before → Taking 1 len step left whole start before
+taking-starts h p q b e = record { small = h; walking = record { inside = q; few = omega arith; gives = sym e }; bounded = b }
 
-      pub set-halts : (g : PlanGround) → y ≡ Code.Progress.Stopped g → progressOf (Code.Progress.Stopped g) ≡ whole
-      set-halts g r = rw r at now
+module _ {m len : ℕ} {step : ℕ → ℕ → ℕ → Progress} {left : ℕ} {whole : Progress} {at carriages : ℕ} (t : Taking m len step left whole at carriages) where
+  pub taking-ends : left ≡ 0 → reached at carriages ≡ whole
+  taking-ends z = walking-ends (t .walking) (ap members z ∙ members-none)
 
-      -- the next turn, with the bounds
-      pub set-moves : (m len : ℕ) → Bound m len (step x at carriages) → (a′ c′ : ℕ) → y ≡ Code.Progress.Reached a′ c′
-          → (next < 256) × (a′ ≤ len) × (c′ ≤ m * a′) × (walk step (members next) a′ c′ ≡ whole)
-      set-moves m len k a′ c′ r =
-          let l = code-bound m len (step x at carriages) k y z a′ c′ r in
-          let small : next < 256 = rw c (minus-small 8 left one h) in
-          (small, l .0, l .1, rw r at now)
+  module _ {x next : ℕ} (k : Taken left x next) {y : Code.Progress} (z : progressOf y ≡ step x at carriages) where
+    pub taking-halts : {g : PlanGround} → y ≡ Code.Progress.Stopped g → progressOf (Code.Progress.Stopped g) ≡ whole
+    taking-halts r = walking-halts (t .walking) (k .split) z r
+
+    pub taking-moves : {a c : ℕ} → y ≡ Code.Progress.Reached a c → Taking m len step next whole a c
+    taking-moves r =
+        let w = t .walking in
+        record { small = k .small; walking = walking-moves w (k .split) z (t .bounded x at carriages (w .inside) (w .few)) r; bounded = t .bounded }
 
 -- the receiver itself takes no step, so it may be left out of the sources
 
@@ -157,8 +170,8 @@ out-first S r one others l a b =
     let q = eq-eqb r r refl in
     e ∙ cases (has S r) (λ t. simp (t, p, q)) (λ t. simp t)
 
-pub out-stays : (left one next r : ℕ) → next ≡ minus left one → has left r ≡ false → has next r ≡ false
-out-stays left one next r c e = ap (λ (x : ℕ). has x r) c ∙ has-minus left one r ∙ simp e
+pub out-stays : (r : ℕ) {left x next : ℕ} → Taken left x next → has left r ≡ false → has next r ≡ false
+out-stays r {left} {x} {next} k e = ap (λ (y : ℕ). has y r) (k .rest) ∙ has-minus left (single x) r ∙ simp e
 
-pub lowest-other : (left r x : ℕ) → left < 256 → (left ≡ 0 → ⊥) → has left r ≡ false → x ≡ lowest left → x ≡ r → ⊥
-lowest-other left r x h o e a b = clash (has left r) (ap (has left) (sym b ∙ a) ∙ lowest-in left h o) e
+pub out-other : {left x next r : ℕ} → Taken left x next → has left r ≡ false → x ≡ r → ⊥
+out-other {left} {x} {next} {r} k e q = clash (has left r) (ap (has left) (sym q) ∙ k .member) e

@@ -2,13 +2,13 @@
 --     halts-then, moves-then   a check that stops, or goes on, in a row of checks
 --     others-is                the servers of V−F outside S, as the code computes them
 --     rest-split               the commands of a block after its opening, kind by kind
---     block-..                 the answers of the block check
+--     FromFault, FromSide, FromQuorum, block-..   the points of the test of a block's opening, and what the tests give
 -- Assumes nothing.
-use mathlib.Core.Path.{_≡_, sym, ap, _∙_}
-use mathlib.Core.Bool.{Bool, true, false, _||_}
+use mathlib.Core.Path.{_≡_, refl, sym, ap, _∙_}
+use mathlib.Core.Bool.{Bool, true, false, cond, not, _&&_, _||_}
 use mathlib.Core.List.{List, _++_}
-use Prim.Native.Nat.{ℕ, _+_, _-_, _≤_, min}
-use lib.ListN.{getD}
+use Prim.Native.Nat.{ℕ, _≤_, min}
+use lib.ListN.{length, getD}
 use lib.Dec.{eqb}
 use borrow.Author.Tests.{eq-eqb, ne-eqb}
 use Rattle.refusal.specs.declared.PlanGround.{PlanGround}
@@ -20,6 +20,7 @@ use Rattle.route.specs.Commands.{isCut}
 use Rattle.plan.specs.Check.{Progress, reached, stopped, andThen, isDue, checkGroups, checkReports, checkBlock}
 use Rattle.plan.specs.Answers.{progressOf, dueOf}
 use Rattle.plan.specs.declared.check.Progress as Code
+use Rattle.plan.proofs.Groups.{whole-opening}
 use Rattle.plan.proofs.Joins.{then-then, groups-append}
 use Rattle.plan.proofs.Cuts.{full-few}
 
@@ -53,49 +54,72 @@ module _ (n f : ℕ) (links : Links) (F A S : ℕ) (s : List ℕ) where
       ∙ then-then (andThen (checkGroups n links F s inward at carriages) (λ (a c : ℕ). checkGroups n links F s among a c)) (λ (a c : ℕ). checkGroups n links F s outward a c) next
       ∙ then-then (checkGroups n links F s inward at carriages) (λ (a c : ℕ). checkGroups n links F s among a c) (λ (a c : ℕ). andThen (checkGroups n links F s outward a c) next)
 
--- the tests of a block's opening, in their order
-module _ (n f : ℕ) (links : Links) (s : List ℕ) (F p : ℕ) where
-  module _ (b : Bool) (e : b ≡ isCut s 0) where
-    pub block-cut : b ≡ true → stopped 2 0 ≡ checkBlock n f links s (dueOf F p)
+-- The tests of a block's opening, in their order, at three points. At each, what is left to test gives the answer of the block check.
+
+abbrev pub Point : Type 1
+Point = (n f : ℕ) (links : Links) (s : List ℕ) (F p : ℕ) → Type 0
+
+-- the commands after the opening
+abbrev pub restOf : (n f : ℕ) (links : Links) (s : List ℕ) (F : ℕ) → Progress
+restOf n f links s F = andThen (checkGroups n links F s (routesDue n f F (getD s 2 0) (getD s 3 0)) 4 0) (λ (at carriages : ℕ). checkReports n f links F s (members F) at carriages)
+
+-- the command is a block's with its operands there, and F is next
+pub record FromFault (n f : ℕ) (links : Links) (s : List ℕ) (F p : ℕ) : Type 0 where
+  pub long : 4 ≤ length s
+  pub gives : let W = minus (full n) F in
+      cond (eqb (getD s 1 0) F && (eqb (getD s 2 0) p || eqb (getD s 2 0) (minus W p))) (cond (not (eqb (getD s 3 0) 0) && within (getD s 3 0) W) (restOf n f links s (getD s 1 0)) (stopped 8 0)) (stopped 7 0)
+      ≡ checkBlock n f links s (dueOf F p)
+
+-- its F is the one due, `sound` are the servers of V−F, and A is next
+pub record FromSide (sound n f : ℕ) (links : Links) (s : List ℕ) (F p : ℕ) : Type 0 where
+  pub long : 4 ≤ length s
+  pub gives : cond (eqb (getD s 2 0) p || eqb (getD s 2 0) (minus sound p)) (cond (not (eqb (getD s 3 0) 0) && within (getD s 3 0) sound) (restOf n f links s F) (stopped 8 0)) (stopped 7 0)
+      ≡ checkBlock n f links s (dueOf F p)
+
+-- its A is one of the two parts, and S is next
+pub record FromQuorum (sound n f : ℕ) (links : Links) (s : List ℕ) (F p : ℕ) : Type 0 where
+  pub long : 4 ≤ length s
+  pub gives : cond (not (eqb (getD s 3 0) 0) && within (getD s 3 0) sound) (restOf n f links s F) (stopped 8 0) ≡ checkBlock n f links s (dueOf F p)
+
+module _ (n f : ℕ) (links : Links) (s : List ℕ) (F p : ℕ) {b : Bool} (e : b ≡ isCut s 0) where
+  pub block-cut : b ≡ true → stopped 2 0 ≡ checkBlock n f links s (dueOf F p)
+  unfolding checkBlock isDue
+  block-cut t = sym (simp (sym e ∙ t))
+
+  module _ (q : b ≡ false) where
+    pub block-other : (getD s 0 0 ≡ 16 → ⊥) → stopped 7 0 ≡ checkBlock n f links s (dueOf F p)
     unfolding checkBlock isDue
-    block-cut t = sym (simp (sym e ∙ t))
+    block-other o = sym (simp (sym e ∙ q, ne-eqb _ _ o))
 
-    module _ (q : b ≡ false) where
-      pub block-other : (getD s 0 0 ≡ 16 → ⊥) → stopped 7 0 ≡ checkBlock n f links s (dueOf F p)
-      unfolding checkBlock isDue
-      block-other o = sym (simp (sym e ∙ q, ne-eqb _ _ o))
+    pub block-here : getD s 0 0 ≡ 16 → FromFault n f links s F p
+    unfolding checkBlock isDue
+    block-here k = record { long = whole-opening s (sym e ∙ q) k; gives = sym (simp (sym e ∙ q, eq-eqb _ _ k)) }
 
-      module _ (k : getD s 0 0 ≡ 16) where
-        pub block-fault : (getD s 1 0 ≡ F → ⊥) → stopped 7 0 ≡ checkBlock n f links s (dueOf F p)
-        unfolding checkBlock isDue
-        block-fault o = sym (simp (sym e ∙ q, eq-eqb _ _ k, ne-eqb _ _ o))
+module _ {n f : ℕ} {links : Links} {s : List ℕ} {F p : ℕ} where
+  module _ (t : FromFault n f links s F p) where
+    pub block-fault : (getD s 1 0 ≡ F → ⊥) → stopped 7 0 ≡ checkBlock n f links s (dueOf F p)
+    block-fault o = sym (simp (ne-eqb _ _ o)) ∙ t .gives
 
-        module _ (g : getD s 1 0 ≡ F) (sound : ℕ) (w : sound ≡ minus (full n) F) (d : Bool) (v : d ≡ (eqb (getD s 2 0) p || eqb (getD s 2 0) (minus sound p))) where
-          side-is : (eqb (getD s 2 0) p || eqb (getD s 2 0) (minus (minus (full n) F) p)) ≡ d
-          side-is = sym (v ∙ ap (λ (x : ℕ). eqb (getD s 2 0) p || eqb (getD s 2 0) (minus x p)) w)
+    pub block-known : getD s 1 0 ≡ F → n ≤ 8 → {servers sound : ℕ} → servers ≡ full (min n 8) → sound ≡ minus servers F → FromSide sound n f links s F p
+    block-known g h {servers} {sound} a b =
+        let r = t .gives in
+        let q = rw g at r in
+        record { long = t .long; gives = rw (sound-is n F servers sound h a b) (sym (simp (eq-eqb F F refl)) ∙ q) }
 
-          pub block-side : d ≡ false → stopped 7 0 ≡ checkBlock n f links s (dueOf F p)
-          unfolding checkBlock isDue
-          block-side t = sym (simp (sym e ∙ q, eq-eqb _ _ k, eq-eqb _ _ g, side-is ∙ t))
+  module _ {sound : ℕ} (t : FromSide sound n f links s F p) {d : Bool} (v : d ≡ (eqb (getD s 2 0) p || eqb (getD s 2 0) (minus sound p))) where
+    pub block-side : d ≡ false → stopped 7 0 ≡ checkBlock n f links s (dueOf F p)
+    block-side o = sym (simp (sym v ∙ o)) ∙ t .gives
 
-          module _ (t : d ≡ true) where
-            pub block-empty : getD s 3 0 ≡ 0 → stopped 8 0 ≡ checkBlock n f links s (dueOf F p)
-            unfolding checkBlock isDue
-            block-empty z = sym (simp (sym e ∙ q, eq-eqb _ _ k, eq-eqb _ _ g, side-is ∙ t, eq-eqb _ _ z))
+    pub block-part : d ≡ true → FromQuorum sound n f links s F p
+    block-part o = record { long = t .long; gives = sym (simp (sym v ∙ o)) ∙ t .gives }
 
-            module _ (o : getD s 3 0 ≡ 0 → ⊥) (i : Bool) (u : i ≡ within (getD s 3 0) sound) where
-              inside-is : within (getD s 3 0) (minus (full n) F) ≡ i
-              inside-is = sym (u ∙ ap (within (getD s 3 0)) w)
+  module _ {sound : ℕ} (t : FromQuorum sound n f links s F p) where
+    pub block-empty : getD s 3 0 ≡ 0 → stopped 8 0 ≡ checkBlock n f links s (dueOf F p)
+    block-empty z = sym (simp (eq-eqb _ _ z)) ∙ t .gives
 
-              pub block-outside : i ≡ false → stopped 8 0 ≡ checkBlock n f links s (dueOf F p)
-              unfolding checkBlock isDue
-              block-outside z = sym (simp (sym e ∙ q, eq-eqb _ _ k, eq-eqb _ _ g, side-is ∙ t, ne-eqb _ _ o, inside-is ∙ z))
+    module _ (o : getD s 3 0 ≡ 0 → ⊥) {i : Bool} (u : i ≡ within (getD s 3 0) sound) where
+      pub block-outside : i ≡ false → stopped 8 0 ≡ checkBlock n f links s (dueOf F p)
+      block-outside z = sym (simp (ne-eqb _ _ o, sym u ∙ z)) ∙ t .gives
 
-              pub block-rest : i ≡ true → (x : Progress)
-                  → x ≡ andThen (checkGroups n links F s (routesDue n f F (getD s 2 0) (getD s 3 0)) 4 0) (λ (at carriages : ℕ). checkReports n f links F s (members F) at carriages)
-                  → x ≡ checkBlock n f links s (dueOf F p)
-              unfolding checkBlock isDue
-              block-rest z x y =
-                  y
-                  ∙ ap (λ (G : ℕ). andThen (checkGroups n links G s (routesDue n f G (getD s 2 0) (getD s 3 0)) 4 0) (λ (at carriages : ℕ). checkReports n f links G s (members G) at carriages)) (sym g)
-                  ∙ sym (simp (sym e ∙ q, eq-eqb _ _ k, eq-eqb _ _ g, side-is ∙ t, ne-eqb _ _ o, inside-is ∙ z))
+      pub block-rest : i ≡ true → {x : Progress} → x ≡ restOf n f links s F → x ≡ checkBlock n f links s (dueOf F p)
+      block-rest z y = y ∙ sym (simp (ne-eqb _ _ o, sym u ∙ z)) ∙ t .gives

@@ -5,14 +5,14 @@
 -- Assumes nothing.
 use mathlib.Core.Path.{_≡_, refl, sym, ap, _∙_}
 use mathlib.Core.List.{List}
-use Prim.Native.Nat.{ℕ, _+_, _-_, _*_, _^_, _≤_, _<_}
+use Prim.Native.Nat.{ℕ, min, _+_, _-_, _^_, _≤_, _<_}
 use native.Mathlib.Omega.{arith}
-use lib.ListN.{length}
+use lib.ListN.{length, getD}
 use lib.Dec.{leb}
 use borrow.Author.Tests.{lt-ltb, le-ltb, le-leb, lt-leb}
 use Rattle.refusal.specs.Refused.{Refused, plan, planRefusal, numberOf, placeOf}
 use Rattle.refusal.specs.declared.PlanGround.{PlanGround}
-use Rattle.sets.specs.Sets.{minus, full, size}
+use Rattle.sets.specs.Sets.{minus, full, size, TableOf}
 use Rattle.network.specs.Links.{Links}
 use Rattle.network.specs.Card.{Network, network, refused, readCard, head, headOf, linksAfter}
 use Rattle.network.specs.Card as Card
@@ -23,49 +23,50 @@ use Rattle.plan.specs.Due.{isPart, blocksOf, due}
 use Rattle.plan.specs.Check.{Progress, reached, andThen, checkBlocks, checkEnd, Totals, totals, turned, totalsOf, checkOn, checkPlan}
 use Rattle.plan.specs.Answers.{progressOf}
 use Rattle.plan.specs.declared.check.Progress as Code
-use Rattle.plan.proofs.Cuts.{few}
-use Rattle.plan.proofs.Walks.{walk, faultStep, blocks-walk, walk-done, walk-halts}
-use Rattle.plan.proofs.Bounds.{turn-skips, turn-moves, cuts-bound}
+use Rattle.plan.proofs.Cuts.{full-few, few}
+use Rattle.plan.proofs.Walks.{list-next, list-skip, list-done, faultStep, blocks-walk}
+use Rattle.plan.proofs.Bounds.{Walking, walking-ends, walking-same, walking-halts, walking-moves, cuts-bound}
 use Rattle.plan.proofs.Parts.{halts-then, moves-then}
 
--- the blocks of the fault sets that are left give the answer of all
+-- the blocks of the fault sets from i on give the answer of all
+pub record Going (n f : ℕ) (links : Links) (s : List ℕ) (limit i at carriages : ℕ) : Type 0 where
+  pub most : i ≤ limit
+  pub sets : limit ≤ 256
+  pub walking : Walking 256 (length s) (faultStep n f links s) (listFrom (limit - i) i (few f)) (checkBlocks n f links s (due n f) 0 0) at carriages
 
-module _ (n f : ℕ) (links : Links) (s : List ℕ) (limit i at carriages : ℕ) where
-  abbrev pub Going : Type 0
-  Going =
-      (i ≤ limit) × (at ≤ length s) × (carriages ≤ 256 * at)
-      × (walk (faultStep n f links s) (listFrom (limit - i) i (few f)) at carriages ≡ checkBlocks n f links s (due n f) 0 0)
+pub going-starts : (n f : ℕ) (links : Links) (s : List ℕ) (servers : ℕ) → n ≤ 8 → servers ≡ full (min n 8) → Going n f links s (servers + 1) 0 0 0
+unfolding due
+going-starts n f links s servers h e =
+    let w = full-few n servers h e in
+    let z : servers + 1 - 0 ≡ 2 ^ n = omega arith in
+    record { most = omega arith; sets = w .2; walking = rw z (record { inside = omega arith; few = omega arith; gives = sym (blocks-walk n f links s (listFrom (2 ^ n) 0 (few f)) 0 0) }) }
 
-module _ (n f : ℕ) (links : Links) (s : List ℕ) (limit : ℕ) where
-  pub going-starts : limit ≡ 2 ^ n → Going n f links s limit 0 0 0
-  unfolding due
-  going-starts e =
-      let z : limit - 0 ≡ 2 ^ n = omega arith in
-      (omega arith, omega arith, omega arith, rw z (sym (blocks-walk n f links s (listFrom (2 ^ n) 0 (few f)) 0 0)))
+module _ {n f : ℕ} {links : Links} {s : List ℕ} {limit i at carriages : ℕ} (g : Going n f links s limit i at carriages) where
+  pub going-ends : limit ≤ i → reached at carriages ≡ checkBlocks n f links s (due n f) 0 0
+  going-ends h = walking-ends (g .walking) (list-done limit i (few f) h)
 
-  module _ (i at carriages : ℕ) (g : Going n f links s limit i at carriages) where
-    pub going-ends : limit ≤ i → reached at carriages ≡ checkBlocks n f links s (due n f) 0 0
-    going-ends h = walk-done (faultStep n f links s) limit (few f) _ i at carriages (g .3) h
+  -- a turn, with a table of the sizes of sets
+  module _ (h : i < limit) {sizes : List ℕ} (t : TableOf size sizes) where
+    test : few f i ≡ leb (getD sizes i 0) f
+    test = let l = g .sets in ap (λ (x : ℕ). leb x f) (sym (t .entry i (omega arith)))
 
-    module _ (h : i < limit) (k : ℕ) (e : k ≡ size i) where
-      test : leb k f ≡ few f i
-      test = ap (λ (x : ℕ). leb x f) e
+    pub going-skips : f < getD sizes i 0 → Going n f links s limit (i + 1) at carriages
+    going-skips o = record { most = omega arith; sets = g .sets; walking = walking-same (g .walking) (list-skip limit i (few f) h (test ∙ lt-leb _ f o)) }
 
-      pub going-skips : f < k → (at′ carriages′ : ℕ) → at′ ≡ at → carriages′ ≡ carriages → Going n f links s limit (i + 1) at′ carriages′
-      going-skips t at′ carriages′ q r =
-          turn-skips 256 (length s) (faultStep n f links s) limit (few f) _ i at carriages (g .3) h (leb k f) test at′ carriages′ (lt-leb k f t) (g .1) (g .2) q r
+    module _ (d : getD sizes i 0 ≤ f) {y : Code.Progress} (z : progressOf y ≡ checkBlocks n f links s (blocksOf i (listFrom (2 ^ n) 0 (isPart (minus (full n) i)))) at carriages) where
+      pub going-halts : {b : PlanGround} → y ≡ Code.Progress.Stopped b → progressOf (Code.Progress.Stopped b) ≡ checkBlocks n f links s (due n f) 0 0
+      unfolding faultStep
+      going-halts r = walking-halts (g .walking) (list-next limit i (few f) h (test ∙ le-leb _ f d)) z r
 
-      module _ (t : k ≤ f) (y : Code.Progress) (z : progressOf y ≡ checkBlocks n f links s (blocksOf i (listFrom (2 ^ n) 0 (isPart (minus (full n) i)))) at carriages) where
-        pub going-halts : (b : PlanGround) → y ≡ Code.Progress.Stopped b → progressOf (Code.Progress.Stopped b) ≡ checkBlocks n f links s (due n f) 0 0
-        unfolding faultStep
-        going-halts b r = walk-halts (faultStep n f links s) limit (few f) _ i at carriages (g .3) h (leb k f) test (le-leb k f t) _ refl y z b r
-
-        pub going-moves : f < 256 → (a c : ℕ) → y ≡ Code.Progress.Reached a c → (at′ carriages′ : ℕ) → at′ ≡ a → carriages′ ≡ c
-            → Going n f links s limit (i + 1) at′ carriages′
-        unfolding faultStep
-        going-moves v a c r at′ carriages′ p q =
-            turn-moves 256 (length s) (faultStep n f links s) limit (few f) _ i at carriages (g .3) h (leb k f) test at′ carriages′ (le-leb k f t) y z
-            (cuts-bound n f links v s i _ at carriages (g .1) (g .2)) a c r p q
+      pub going-moves : f < 256 → {a c : ℕ} → y ≡ Code.Progress.Reached a c → Going n f links s limit (i + 1) a c
+      unfolding faultStep
+      going-moves v r =
+          let w = g .walking in
+          record {
+            most = omega arith;
+            sets = g .sets;
+            walking = walking-moves w (list-next limit i (few f) h (test ∙ le-leb _ f d)) z (cuts-bound n f links v s i _ at carriages (w .inside) (w .few)) r;
+          }
 
 -- the answers for a network
 

@@ -1,10 +1,10 @@
 -- A loop over the members of a set, each of which takes the check one step on.
 --     walk              the steps for a list, one after the other
---     walk-..           the loop over the numbers below a limit: what is left from here gives the answer of the whole
+--     list-..           the numbers from i to a limit that are to be walked
 --     fan-walk, ..      each list of due things is such a walk
 -- Assumes nothing.
 use mathlib.Core.Path.{_≡_, refl, sym, ap, _∙_}
-use mathlib.Core.Bool.{Bool, true, false, cond, _&&_}
+use mathlib.Core.Bool.{true, false, cond, _&&_}
 use mathlib.Core.List.{List, [], _∷_}
 use Prim.Native.Nat.{ℕ, suc, _+_, _-_, _^_, _≤_, _<_}
 use native.Mathlib.Numerals.{add-one}
@@ -13,8 +13,6 @@ use lib.ListN.{getD, drop}
 use lib.Dec.{eqb}
 use borrow.Author.Tests.{eq-eqb, ne-eqb}
 use Rattle.facts.proofs.Bools.{cases}
-use Rattle.refusal.specs.Refused.{planRefusal, numberOf, placeOf}
-use Rattle.refusal.specs.declared.PlanGround.{PlanGround}
 use Rattle.sets.specs.Sets.{Set, single, minus, full}
 use Rattle.network.specs.Links.{Links}
 use Rattle.plan.specs.Members.{listFrom}
@@ -22,7 +20,6 @@ use Rattle.plan.specs.Due.{isPart, blocksOf, blocksOfAll, fan, toOne, pa
 use Rattle.route.specs.Commands.{isCut}
 use Rattle.plan.specs.Check.{Progress, reached, stopped, andThen, onward, isDue, isReport, checkGroup, checkGroups, checkReports, checkBlock, checkBlocks}
 use Rattle.plan.specs.Answers.{progressOf, groupOf}
-use Rattle.plan.specs.declared.check.Progress as Code
 use Rattle.plan.proofs.Joins.{then-same, groups-append, blocks-append}
 
 unfoldable pub walk : (ℕ → ℕ → ℕ → Progress) → List ℕ → (at carriages : ℕ) → Progress
@@ -48,36 +45,6 @@ list-skip limit i p h e =
 pub list-done : (limit i : ℕ) (p : Set) → limit ≤ i → listFrom (limit - i) i p ≡ []
 unfolding listFrom
 list-done limit i p h = let z : limit - i ≡ 0 = omega arith in rw z refl
-
-module _ (step : ℕ → ℕ → ℕ → Progress) (limit : ℕ) (p : Set) (whole : Progress) (i at carriages : ℕ)
-    (so : walk step (listFrom (limit - i) i p) at carriages ≡ whole) where
-  pub walk-done : limit ≤ i → reached at carriages ≡ whole
-  unfolding walk
-  walk-done h = rw (list-done limit i p h) at so
-
-  module _ (h : i < limit) (b : Bool) (e : b ≡ p i) where
-    pub walk-skips : b ≡ false → walk step (listFrom (limit - (i + 1)) (i + 1) p) at carriages ≡ whole
-    walk-skips f = rw (list-skip limit i p h (sym e ∙ f)) at so
-
-    module _ (t : b ≡ true) (x : Progress) (q : x ≡ step i at carriages) where
-      now : andThen x (λ (a c : ℕ). walk step (listFrom (limit - (i + 1)) (i + 1) p) a c) ≡ whole
-      unfolding walk
-      now = rw q (rw (list-next limit i p h (sym e ∙ t)) at so)
-
-      pub walk-stops : (number place : ℕ) → x ≡ stopped number place → stopped number place ≡ whole
-      walk-stops number place r = rw r at now
-
-      pub walk-goes : (a c : ℕ) → x ≡ reached a c → walk step (listFrom (limit - (i + 1)) (i + 1) p) a c ≡ whole
-      walk-goes a c r = rw r at now
-
-      -- the same for the code's progress
-
-      module _ (y : Code.Progress) (z : progressOf y ≡ x) where
-        pub walk-halts : (g : PlanGround) → y ≡ Code.Progress.Stopped g → progressOf (Code.Progress.Stopped g) ≡ whole
-        walk-halts g r = walk-stops (numberOf (planRefusal g)) (placeOf (planRefusal g)) (sym z ∙ ap progressOf r)
-
-        pub walk-moves : (a c : ℕ) → y ≡ Code.Progress.Reached a c → walk step (listFrom (limit - (i + 1)) (i + 1) p) a c ≡ whole
-        walk-moves a c r = walk-goes a c (sym z ∙ ap progressOf r)
 
 -- lists of groups
 

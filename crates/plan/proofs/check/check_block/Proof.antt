@@ -1,13 +1,11 @@
--- `plan::check::check_block` meets its contract. Assumes nothing.
-use mathlib.Core.Path.{refl, sym, ap, _∙_}
-use Prim.Native.Nat.{_-_}
+-- `plan::check::check_block` meets its contract. It passes three points, `here`, `known` and `part`, and at each what is left to test of the opening
+-- gives the answer (`Parts`). Assumes nothing.
+use mathlib.Core.Path.{refl, sym, _∙_}
 use native.Mathlib.Omega.{arith}
 use borrow.Author.Needs.{needs}
 use Rattle.route.specs.Commands.{width}
 use Rattle.plan.proofs.Groups.{whole-command}
-use Rattle.plan.proofs.Parts.{sound-is, block-cut, block-other, block-fault, block-side, block-empty, block-outside, block-rest}
-use borrow.Author.Needs.{needs}
-use borrow.Author.Needs.{needs}
+use Rattle.plan.proofs.Parts.{Point, FromFault, FromSide, FromQuorum, block-cut, block-other, block-here, block-fault, block-known, block-side, block-part, block-empty, block-outside, block-rest}
 use Rattle.plan.proofs.check.check_block.Statement.{statement}
 use Rattle.plan.proofs.check.check_block.Tie as tie
 use Rattle.plan.proofs.check.check_block.Reads as reads
@@ -19,27 +17,39 @@ use Rattle.sets.proofs.full.Reads as full-reads
 use Rattle.sets.proofs.minus.Reads as minus-reads
 use Rattle.sets.proofs.within.Reads as within-reads
 
+-- what `Rest` says is still to test of the opening gives the answer
+abbrev Left : tie.Start → Point → Type 0
+Left c Rest = let a = c .args in Rest (a .n) (a .f) (a .links) (a .block .now) (a .fault) (a .part)
+
+-- the command is a block's: its operands are there, and they are next
+here : (c : tie.Else2) → Left (c .before .before .before .before .before) FromFault
+here c = block-here _ _ _ _ _ _ (c .before .before .before .is-cut .ensures) (c .before .before .if1 .left) (c .if2 .left)
+
+-- F is the one due and V−F is known: A is next
+known : (c : tie.After-minus) → Left (c .before .before .before .before .before .before .before .before .before) (FromSide (c .minus .result))
+known c = block-known (here (c .before .before .before .before)) (c .before .before .if3 .left) (search needs) (c .before .full .ensures) (c .minus .ensures)
+
+-- A is one of the two parts: S is next
+part : (c : tie.Then4) → Left (c .before .before .before .before .before .before .before .before .before .before .before .before) (FromQuorum (c .before .before .before .minus .result))
+part c = block-part (known (c .before .before .before)) (c .before .is-side .ensures) (c .if4 .taken)
+
 is-cut-requires : tie.Need-is-cut-requires
 is-cut-requires c κs = search needs
 
 returns : tie.Need-returns
-returns c = let a = c .before .before .before .args in
-    block-cut (a .n) (a .f) (a .links) (a .block .now) (a .fault) (a .part) _ (c .before .is-cut .ensures) (c .if1 .taken)
+returns c = block-cut _ _ _ _ _ _ (c .before .is-cut .ensures) (c .if1 .taken)
 
 shared-slice-read-if2 : tie.Need-shared-slice-read-if2
-shared-slice-read-if2 c = whole-command (c .before .before .before .before .args .block .now) 0 _ (sym (c .before .before .is-cut .ensures) ∙ c .before .if1 .left) refl .0
+shared-slice-read-if2 c = whole-command _ _ _ (sym (c .before .before .is-cut .ensures) ∙ c .before .if1 .left) refl .0
 
 returns-2 : tie.Need-returns-2
-returns-2 c = let a = c .before .before .before .before .before .args in
-    block-other (a .n) (a .f) (a .links) (a .block .now) (a .fault) (a .part) _ (c .before .before .before .is-cut .ensures) (c .before .before .if1 .left) (c .if2 .taken)
+returns-2 c = block-other _ _ _ _ _ _ (c .before .before .before .is-cut .ensures) (c .before .before .if1 .left) (c .if2 .taken)
 
 shared-slice-read-if3 : tie.Need-shared-slice-read-if3
-unfolding width
-shared-slice-read-if3 c = let z = whole-command (c .before .before .before .before .before .before .args .block .now) 0 4 (sym (c .before .before .before .before .is-cut .ensures) ∙ c .before .before .before .if1 .left) (ap width (c .before .if2 .left)) in omega arith
+shared-slice-read-if3 c = omega (arith, here (c .before))
 
 returns-3 : tie.Need-returns-3
-returns-3 c = let a = c .before .before .before .before .before .before .before .args in
-    block-fault (a .n) (a .f) (a .links) (a .block .now) (a .fault) (a .part) _ (c .before .before .before .before .before .is-cut .ensures) (c .before .before .before .before .if1 .left) (c .before .before .if2 .left) (c .if3 .taken)
+returns-3 c = block-fault (here (c .before .before)) (c .if3 .taken)
 
 full-requires : tie.Need-full-requires
 full-requires c κs = search needs
@@ -48,38 +58,31 @@ minus-requires : tie.Need-minus-requires
 minus-requires c κs = search needs
 
 shared-slice-read-side : tie.Need-shared-slice-read-side
-unfolding width
-shared-slice-read-side c = let z = whole-command (c .before .before .before .before .before .before .before .before .before .before .args .block .now) 0 4 (sym (c .before .before .before .before .before .before .before .before .is-cut .ensures) ∙ c .before .before .before .before .before .before .before .if1 .left) (ap width (c .before .before .before .before .before .if2 .left)) in omega arith
+shared-slice-read-side c = omega (arith, known (c .before))
 
 is-side-requires : tie.Need-is-side-requires
 is-side-requires c κs = search needs
 
 shared-slice-read-quorum : tie.Need-shared-slice-read-quorum
-unfolding width
-shared-slice-read-quorum c = let z = whole-command (c .before .before .before .before .before .before .before .before .before .before .before .before .before .args .block .now) 0 4 (sym (c .before .before .before .before .before .before .before .before .before .before .before .is-cut .ensures) ∙ c .before .before .before .before .before .before .before .before .before .before .if1 .left) (ap width (c .before .before .before .before .before .before .before .before .if2 .left)) in omega arith
+shared-slice-read-quorum c = omega (arith, part (c .before))
 
 returns-4 : tie.Need-returns-4
-returns-4 c = let a = c .before .before .before .before .before .before .before .before .before .before .before .before .before .before .args in
-    block-empty (a .n) (a .f) (a .links) (a .block .now) (a .fault) (a .part) _ (c .before .before .before .before .before .before .before .before .before .before .before .before .is-cut .ensures) (c .before .before .before .before .before .before .before .before .before .before .before .if1 .left) (c .before .before .before .before .before .before .before .before .before .if2 .left) (c .before .before .before .before .before .before .before .if3 .left) _ (sound-is (a .n) (a .fault) _ _ (c .before .before .before .before .before .before .before .before .before .before .before .before .before .before .pre .0) (c .before .before .before .before .before .before .full .ensures) (c .before .before .before .before .before .minus .ensures)) _ (c .before .before .before .is-side .ensures) (c .before .before .if4 .taken) (c .if5 .taken)
+returns-4 c = block-empty (part (c .before .before)) (c .if5 .taken)
 
 within-requires : tie.Need-within-requires
 within-requires c κs = search needs
 
 check-rest-requires : tie.Need-check-rest-requires
-unfolding width
-check-rest-requires c κs = (c .before .before .before .before .before .before .before .before .before .before .before .before .before .before .before .before .pre .0, let z = whole-command (c .before .before .before .before .before .before .before .before .before .before .before .before .before .before .before .before .args .block .now) 0 4 (sym (c .before .before .before .before .before .before .before .before .before .before .before .before .before .before .is-cut .ensures) ∙ c .before .before .before .before .before .before .before .before .before .before .before .before .before .if1 .left) (ap width (c .before .before .before .before .before .before .before .before .before .before .before .if2 .left)) in omega arith, c .before .before .before .before .before .before .before .before .before .before .before .before .before .before .before .before .pre .1)
+check-rest-requires c κs = let p = part (c .before .before .before .before) in search needs
 
 returns-5 : tie.Need-returns-5
-returns-5 c = let a = c .before .before .before .before .before .before .before .before .before .before .before .before .before .before .before .before .before .args in
-    block-rest (a .n) (a .f) (a .links) (a .block .now) (a .fault) (a .part) _ (c .before .before .before .before .before .before .before .before .before .before .before .before .before .before .before .is-cut .ensures) (c .before .before .before .before .before .before .before .before .before .before .before .before .before .before .if1 .left) (c .before .before .before .before .before .before .before .before .before .before .before .before .if2 .left) (c .before .before .before .before .before .before .before .before .before .before .if3 .left) _ (sound-is (a .n) (a .fault) _ _ (c .before .before .before .before .before .before .before .before .before .before .before .before .before .before .before .before .before .pre .0) (c .before .before .before .before .before .before .before .before .before .full .ensures) (c .before .before .before .before .before .before .before .before .minus .ensures)) _ (c .before .before .before .before .before .before .is-side .ensures) (c .before .before .before .before .before .if4 .taken) (c .before .before .before .if5 .left) _ (c .before .before .within .ensures) (c .before .if6 .taken) _ (c .check-rest .ensures)
+returns-5 c = block-rest (part (c .before .before .before .before .before)) (c .before .before .before .if5 .left) (c .before .before .within .ensures) (c .before .if6 .taken) (c .check-rest .ensures)
 
 returns-6 : tie.Need-returns-6
-returns-6 c = let a = c .before .before .before .before .before .before .before .before .before .before .before .before .before .before .before .before .args in
-    block-outside (a .n) (a .f) (a .links) (a .block .now) (a .fault) (a .part) _ (c .before .before .before .before .before .before .before .before .before .before .before .before .before .before .is-cut .ensures) (c .before .before .before .before .before .before .before .before .before .before .before .before .before .if1 .left) (c .before .before .before .before .before .before .before .before .before .before .before .if2 .left) (c .before .before .before .before .before .before .before .before .before .if3 .left) _ (sound-is (a .n) (a .fault) _ _ (c .before .before .before .before .before .before .before .before .before .before .before .before .before .before .before .before .pre .0) (c .before .before .before .before .before .before .before .before .full .ensures) (c .before .before .before .before .before .before .before .minus .ensures)) _ (c .before .before .before .before .before .is-side .ensures) (c .before .before .before .before .if4 .taken) (c .before .before .if5 .left) _ (c .before .within .ensures) (c .if6 .left)
+returns-6 c = block-outside (part (c .before .before .before .before)) (c .before .before .if5 .left) (c .before .within .ensures) (c .if6 .left)
 
 returns-7 : tie.Need-returns-7
-returns-7 c = let a = c .before .before .before .before .before .before .before .before .before .before .before .before .args in
-    block-side (a .n) (a .f) (a .links) (a .block .now) (a .fault) (a .part) _ (c .before .before .before .before .before .before .before .before .before .before .is-cut .ensures) (c .before .before .before .before .before .before .before .before .before .if1 .left) (c .before .before .before .before .before .before .before .if2 .left) (c .before .before .before .before .before .if3 .left) _ (sound-is (a .n) (a .fault) _ _ (c .before .before .before .before .before .before .before .before .before .before .before .before .pre .0) (c .before .before .before .before .full .ensures) (c .before .before .before .minus .ensures)) _ (c .before .is-side .ensures) (c .if4 .left)
+returns-7 c = block-side (known (c .before .before .before)) (c .before .is-side .ensures) (c .if4 .left)
 
 pub check-block-spec : {M : Type 1} → statement M
 check-block-spec =

@@ -4,7 +4,6 @@ use mathlib.Core.Logic.{⊎-elim}
 use Prim.Native.Nat.{_-_}
 use native.Mathlib.Omega.{arith}
 use borrow.Author.Needs.{needs}
-use Rattle.plan.proofs.Cuts.{full-few}
 use Rattle.plan.proofs.Plans.{Going, going-starts, going-ends, going-skips, going-halts, going-moves}
 use Rattle.plan.proofs.check.check_blocks.Statement.{statement}
 use Rattle.plan.proofs.check.check_blocks.Tie as tie
@@ -31,16 +30,16 @@ full-requires : tie.Need-full-requires Inv-loop μ-loop
 full-requires c κs = search needs
 
 cast-limit : tie.Need-cast-limit Inv-loop μ-loop
-cast-limit c = let w = full-few _ _ (c .before .before .before .before .pre .0) (c .full .ensures) in omega arith
+cast-limit c = search needs
 
 add-limit : tie.Need-add-limit Inv-loop μ-loop
-add-limit c = let w = full-few _ _ (c .before .before .before .before .pre .0) (c .full .ensures) in omega arith
+add-limit c = search needs
 
 loop-holds : tie.Need-loop-holds Inv-loop μ-loop
-loop-holds c = going-starts _ _ _ _ _ ((full-few _ _ (c .before .before .before .before .pre .0) (c .full .ensures)) .1)
+loop-holds c = going-starts _ _ _ _ _ (c .before .before .before .before .pre .0) (c .full .ensures)
 
 cast-fault : tie.Need-cast-fault Inv-loop μ-loop
-cast-fault c = let w = full-few _ _ (c .before .before .before .before .before .before .pre .0) (c .before .before .full .ensures) in omega arith
+cast-fault c = search needs
 
 cast-if1 : tie.Need-cast-if1 Inv-loop μ-loop
 cast-if1 c = search needs
@@ -49,35 +48,31 @@ array-read-if1 : tie.Need-array-read-if1 Inv-loop μ-loop
 array-read-if1 c = search needs
 
 check-cuts-requires : tie.Need-check-cuts-requires Inv-loop μ-loop
-check-cuts-requires c κs = let l = c .before .before .before .loop in (c .before .before .before .before .before .before .before .before .pre .0, l .inv .1, l .inv .2, c .before .before .before .before .before .before .before .before .pre .1, c .before .before .before .before .before .before .lowests .ensures)
+check-cuts-requires c κs = search needs
 
 enum-known-cuts : tie.Need-enum-known-cuts Inv-loop μ-loop
 enum-known-cuts c = search needs
 
 returns : tie.Need-returns Inv-loop μ-loop
-returns c = let l = c .before .before .before .before .before .before .before .loop in
-    going-halts _ _ _ _ _ (l .i) (l .at) (l .carriages) (l .inv) (c .before .before .before .before .before .before .loop-test .taken) _ (c .before .before .before .before .before .before .before .before .before .sizes .ensures .entry _ (omega arith)) (c .before .before .before .before .before .if1 .taken) _ (c .before .before .before .check-cuts .ensures) _ (c .before .cuts .given .1)
+returns c = let i = c .before .before .before .before .before .before in going-halts (i .before .loop .inv) (i .loop-test .taken) (i .before .before .before .sizes .ensures) (c .before .before .before .before .before .if1 .taken) (c .before .before .before .check-cuts .ensures) (c .before .cuts .given .1)
 
 enum-known-cuts-2 : tie.Need-enum-known-cuts-2 Inv-loop μ-loop
 enum-known-cuts-2 c = search needs
 
 add-i : tie.Need-add-i Inv-loop μ-loop
-add-i c = let w = full-few _ _ (c .before .before .before .before .before .before .before .pre .0) (c .before .before .before .full .ensures) in omega arith
+add-i c = search needs
 
 loop-less : tie.Need-loop-less Inv-loop μ-loop
 loop-less c = search needs
 
 loop-again : tie.Need-loop-again Inv-loop μ-loop
-loop-again c = let l = c .before .before .loop in
+loop-again c = let g = c .before .before .loop .inv in
     let h = c .before .loop-test .taken in
-    let e = c .before .before .before .before .sizes .ensures .entry (l .i) (omega arith) in
-    ⊎-elim
-    (λ w. going-moves _ _ _ _ _ (l .i) (l .at) (l .carriages) (l .inv) h _ e (w .0 .taken) _ (w .2 .ensures) (omega arith) _ _ (w .4 .given .1) _ _ (w .6) (w .7))
-    (λ w. going-skips _ _ _ _ _ (l .i) (l .at) (l .carriages) (l .inv) h _ e (w .0 .left) _ _ (w .1) (w .2))
-    (c .if1 .came)
+    let t = c .before .before .before .before .sizes .ensures in
+    ⊎-elim (λ w. rw (w .6, w .7) (going-moves g h t (w .0 .taken) (w .2 .ensures) (omega arith) (w .4 .given .1))) (λ w. rw (w .1, w .2) (going-skips g h t (w .0 .left))) (c .if1 .came)
 
 returns-2 : tie.Need-returns-2 Inv-loop μ-loop
-returns-2 c = let l = c .before .loop in going-ends _ _ _ _ _ (l .i) (l .at) (l .carriages) (l .inv) (c .loop-test .left)
+returns-2 c = going-ends (c .before .loop .inv) (c .loop-test .left)
 
 pub check-blocks-spec : {M : Type 1} → statement M
 check-blocks-spec =

@@ -1,19 +1,11 @@
--- `plan::check::check_cuts` meets its contract. The invariant of its loop: the parts that are left give the answer of the whole. The measure is
--- how many sets are left to look at. Assumes nothing.
-use mathlib.Core.Path.{_≡_, refl}
-use mathlib.Core.Logic.{_⊎_, ⊎-elim}
-use Prim.Native.Nat.{_-_, _*_, _^_, _≤_}
+-- `plan::check::check_cuts` meets its contract. The invariant of its loop: the parts that are left give the answer of the whole (`Steps`). The
+-- measure is how many sets are left to look at. Assumes nothing.
+use mathlib.Core.Path.{sym, _∙_}
+use mathlib.Core.Logic.{⊎-elim}
+use Prim.Native.Nat.{_+_, _-_, _*_, _≤_}
 use native.Mathlib.Omega.{arith}
 use borrow.Author.Needs.{needs}
-use lib.ListN.{length}
-use Rattle.sets.specs.Sets.{minus, full}
-use Rattle.plan.specs.Members.{listFrom}
-use Rattle.plan.specs.Due.{isPart, blocksOf}
-use Rattle.plan.specs.Check.{checkBlocks}
-use Rattle.plan.proofs.Walks.{walk, blockStep, walk-stops, walk-done}
-use Rattle.plan.proofs.Bounds.{turn-skips}
-use Rattle.plan.proofs.Cuts.{full-few}
-use Rattle.plan.proofs.Steps.{cuts-start, halts-bound, block-halts, moves-bound, block-turn}
+use Rattle.plan.proofs.Steps.{Cutting, cutting-starts, cutting-ends, cutting-skips, PartDue, block-placed, block-halts, block-moves}
 use Rattle.plan.proofs.check.check_cuts.Statement.{statement}
 use Rattle.plan.proofs.check.check_cuts.Tie as tie
 use Rattle.plan.proofs.check.check_cuts.Reads as reads
@@ -26,13 +18,18 @@ use Rattle.sets.proofs.lowest.Reads as lowest-reads
 use Rattle.sets.proofs.minus.Reads as minus-reads
 
 abbrev Inv-loop : tie.InvT-loop
-Inv-loop n f links plan start before fault lowests servers sound low limit at₀ carriages₀ p₀ at carriages p =
-    (p ≤ limit) × (at ≤ length plan) × (carriages ≤ 256 * at)
-    × (walk (blockStep n f links plan fault) (listFrom (limit - p) p (isPart sound)) at carriages ≡ checkBlocks n f links plan (blocksOf fault (listFrom (2 ^ n) 0 (isPart (minus (full n) fault)))) start before)
+Inv-loop n f links plan start before fault lowests servers sound low limit at₀ carriages₀ p₀ at carriages p = Cutting n f links plan fault start before limit sound p at carriages
 
 abbrev μ-loop : tie.MeasureT-loop
 μ-loop n f links plan start before fault lowests servers sound low limit at₀ carriages₀ p₀ at carriages p =
     limit - p
+
+-- p is a part of V−F: the block that starts here is next, and then those of the parts after p
+due : (c : tie.Then1 Inv-loop μ-loop) →
+    let a = c .before .before .before .before .before .before .before .before .args in
+    let l = c .before .before .before .loop in
+    PartDue (a .n) (a .f) (a .links) (a .plan .now) (a .fault) (a .start) (a .before) (c .before .before .before .before .before .before .full .result + 1) (c .before .before .before .before .before .minus .result) (l .p) (l .at) (l .carriages)
+due c = record { cutting = c .before .before .before .loop .inv; more = c .before .before .loop-test .taken; part = sym (c .before .is-part .ensures) ∙ c .if1 .taken }
 
 full-requires : tie.Need-full-requires Inv-loop μ-loop
 full-requires c κs = search needs
@@ -50,11 +47,10 @@ add-limit : tie.Need-add-limit Inv-loop μ-loop
 add-limit c = search needs
 
 loop-holds : tie.Need-loop-holds Inv-loop μ-loop
-loop-holds c = let a = c .before .before .before .before .args in
-    (omega arith, c .before .before .before .before .pre .1, c .before .before .before .before .pre .2, cuts-start (a .n) (a .f) (a .links) (a .plan .now) (a .fault) _ _ (a .start) (a .before) (c .before .before .before .before .pre .0) (c .before .before .full .ensures) (c .before .minus .ensures))
+loop-holds c = let s = c .before .before .before .before in cutting-starts _ _ _ _ _ _ _ _ _ (s .pre .0) (omega arith) (s .pre .3) (c .before .before .full .ensures) (c .before .minus .ensures) (s .pre .1) (s .pre .2)
 
 cast-part : tie.Need-cast-part Inv-loop μ-loop
-cast-part c = let z = full-few _ _ (c .before .before .before .before .before .before .pre .0) (c .before .before .before .before .full .ensures) .2 in omega arith
+cast-part c = search needs
 
 is-part-requires : tie.Need-is-part-requires Inv-loop μ-loop
 is-part-requires c κs = search needs
@@ -69,34 +65,29 @@ part-check-block-end : tie.Need-part-check-block-end Inv-loop μ-loop
 part-check-block-end c = search needs
 
 check-block-requires : tie.Need-check-block-requires Inv-loop μ-loop
-check-block-requires c κs = (c .before .before .before .before .before .before .before .before .before .pre .0, c .before .before .before .before .before .before .before .before .before .pre .4)
+check-block-requires c κs = search needs
 
 enum-known-block : tie.Need-enum-known-block Inv-loop μ-loop
 enum-known-block c = search needs
 
 later-requires : tie.Need-later-requires Inv-loop μ-loop
-later-requires c κs = let a = c .before .before .before .before .before .before .before .before .before .before .before .before .before .args in
-    let l = c .before .before .before .before .before .before .before .before .loop in
-    let x = halts-bound (a .n) (a .f) (a .links) (a .plan .now) (a .fault) (search needs) (l .p) (l .at) (l .carriages) (l .inv .1) (l .inv .2) _ (c .before .before .before .check-block .ensures) _ (c .before .block .given .1) in (x .0, let y = c .before .before .before .before .before .before .before .before .before .before .before .before .before .pre .3 in omega arith)
+later-requires c κs = block-placed (due (c .before .before .before .before .before)) (c .before .before .before .check-block .ensures) (c .before .block .given .1)
 
 returns : tie.Need-returns Inv-loop μ-loop
-returns c = let a = c .before .before .before .before .before .before .before .before .before .before .before .before .before .before .args in
-    let l = c .before .before .before .before .before .before .before .before .before .loop in
-    walk-stops (blockStep (a .n) (a .f) (a .links) (a .plan .now) (a .fault)) _ (isPart _) _ (l .p) (l .at) (l .carriages) (l .inv .3) (omega arith)
-    _ (c .before .before .before .before .before .before .before .is-part .ensures) (c .before .before .before .before .before .before .if1 .taken) _ refl _ _ (block-halts (a .n) (a .f) (a .links) (a .plan .now) (a .fault) (search needs) (l .p) (l .at) (l .carriages) (l .inv .1) (l .inv .2) _ (c .before .before .before .before .check-block .ensures) _ (c .before .before .block .given .1) (c .later .result) (c .later .ensures .0) (c .later .ensures .1))
+returns c = block-halts (due (c .before .before .before .before .before .before)) (c .before .before .before .before .check-block .ensures) (c .before .before .block .given .1) (c .later .result) (c .later .ensures)
 
 enum-known-block-2 : tie.Need-enum-known-block-2 Inv-loop μ-loop
 enum-known-block-2 c = search needs
 
+-- the block is sound: the place after it lies within the plan, and the carriages are at most 256 for a byte
+moved : (c : tie.After-known-told2 Inv-loop μ-loop) → let l = c .before .before .before .before .before .before .before .before .loop in let b = c .before .block2 .given .0 in (l .at + b .0 ≤ 1048576) × (l .carriages + b .1 .0 ≤ 256 * 1048576)
+moved c = let m = block-moves (due (c .before .before .before .before .before)) (c .before .before .before .check-block .ensures) (c .before .block2 .given .1) in (omega arith, omega arith)
+
 add-at : tie.Need-add-at Inv-loop μ-loop
-add-at c = let a = c .before .before .before .before .before .before .before .before .before .before .before .before .before .args in
-    let l = c .before .before .before .before .before .before .before .before .loop in
-    let x = moves-bound (a .n) (a .f) (a .links) (a .plan .now) (a .fault) (search needs) (l .p) (l .at) (l .carriages) (l .inv .1) (l .inv .2) _ (c .before .before .before .check-block .ensures) _ _ (c .before .block2 .given .1) in let y = c .before .before .before .before .before .before .before .before .before .before .before .before .before .pre .3 in omega arith
+add-at c = omega (arith, moved c)
 
 add-carriages : tie.Need-add-carriages Inv-loop μ-loop
-add-carriages c = let a = c .before .before .before .before .before .before .before .before .before .before .before .before .before .args in
-    let l = c .before .before .before .before .before .before .before .before .loop in
-    let x = moves-bound (a .n) (a .f) (a .links) (a .plan .now) (a .fault) (search needs) (l .p) (l .at) (l .carriages) (l .inv .1) (l .inv .2) _ (c .before .before .before .check-block .ensures) _ _ (c .before .block2 .given .1) in let y = c .before .before .before .before .before .before .before .before .before .before .before .before .before .pre .3 in omega arith
+add-carriages c = omega (arith, moved c)
 
 add-p : tie.Need-add-p Inv-loop μ-loop
 add-p c = search needs
@@ -105,17 +96,13 @@ loop-less : tie.Need-loop-less Inv-loop μ-loop
 loop-less c = search needs
 
 loop-again : tie.Need-loop-again Inv-loop μ-loop
-loop-again c = let a = c .before .before .before .before .before .before .before .before .args in
-    let l = c .before .before .before .loop in
-    ⊎-elim
-    (λ w. block-turn (a .n) (a .f) (a .links) (a .plan .now) (a .fault) (search needs) (l .p) (l .at) (l .carriages) (l .inv .1) (l .inv .2) _ (w .2 .ensures) _ _ (w .4 .given .1)
-    _ (isPart _) _ (l .inv .3) (omega arith) _ (c .before .is-part .ensures) (w .0 .taken) (c .if1 .at) (c .if1 .carriages) (w .6) (w .7))
-    (λ w. turn-skips 256 (length (a .plan .now)) (blockStep (a .n) (a .f) (a .links) (a .plan .now) (a .fault)) _ (isPart _) _ (l .p) (l .at) (l .carriages) (l .inv .3) (omega arith) _ (c .before .is-part .ensures) (c .if1 .at) (c .if1 .carriages)
-    (w .0 .left) (l .inv .1) (l .inv .2) (w .1) (w .2))
+loop-again c = ⊎-elim
+    (λ w. rw (w .6, w .7) (block-moves (due (record { before = c .before; if1 = w .0 })) (w .2 .ensures) (w .4 .given .1)))
+    (λ w. rw (w .1, w .2) (cutting-skips (c .before .before .before .loop .inv) (c .before .before .loop-test .taken) (c .before .is-part .ensures) (w .0 .left)))
     (c .if1 .came)
 
 returns-2 : tie.Need-returns-2 Inv-loop μ-loop
-returns-2 c = let l = c .before .loop in walk-done _ _ (isPart _) _ (l .p) (l .at) (l .carriages) (l .inv .3) (omega arith)
+returns-2 c = cutting-ends (c .before .loop .inv) (c .loop-test .left)
 
 pub check-cuts-spec : {M : Type 1} → statement M
 check-cuts-spec =

@@ -1,16 +1,13 @@
--- `plan::check::check_fan` meets its contract. The invariant of its loop: the receivers that are left give the answer of the whole. The measure is
--- how many are left. Assumes nothing.
-use mathlib.Core.Path.{_≡_, sym}
-use Prim.Native.Nat.{_-_, _*_, _≤_, _<_}
-use native.Mathlib.Omega.{arith}
+-- `plan::check::check_fan` meets its contract. The invariant of its loop: the receivers that are left give the answer of the whole
+-- (`Lowests`). The measure is how many are left. Assumes nothing.
 use borrow.Author.Needs.{needs}
-use lib.ListN.{length}
+use lib.ListN.{length, getD}
 use Rattle.plan.specs.Members.{members}
 use Rattle.plan.specs.Due.{fan}
 use Rattle.plan.specs.Check.{checkGroups}
-use Rattle.plan.proofs.Walks.{walk, fanStep, fan-walk}
+use Rattle.plan.proofs.Walks.{fanStep, fan-walk}
 use Rattle.plan.proofs.Bounds.{receiver-bound}
-use Rattle.plan.proofs.Lowests.{set-done, set-less, set-halts, set-moves}
+use Rattle.plan.proofs.Lowests.{Taken, take-lowest, taken-less, Taking, taking-starts, taking-ends, taking-halts, taking-moves}
 use Rattle.plan.proofs.check.check_fan.Statement.{statement}
 use Rattle.plan.proofs.check.check_fan.Tie as tie
 use Rattle.plan.proofs.check.check_fan.Reads as reads
@@ -21,19 +18,21 @@ use Rattle.sets.proofs.single.Reads as single-reads
 
 abbrev Inv-loop : tie.InvT-loop
 Inv-loop n links fault plan start before command sources receivers f lowests count at₀ carriages₀ left₀ at carriages left =
-    (left < 256) × (at ≤ length plan) × (carriages ≤ 1 * at)
-    × (walk (fanStep n links fault plan f command sources) (members left) at carriages ≡ checkGroups n links fault plan (fan f command sources (members receivers)) start before)
+    Taking 1 (length plan) (fanStep n links fault plan f command sources) left (checkGroups n links fault plan (fan f command sources (members receivers)) start before) at carriages
 
 abbrev μ-loop : tie.MeasureT-loop
 μ-loop n links fault plan start before command sources receivers f lowests count at₀ carriages₀ left₀ at carriages left =
     length (members left)
 
+-- the lowest of the receivers that are left is taken out of them
+first : (c : tie.After-minus Inv-loop μ-loop) → let l = c .before .before .before .before .loop in Taken (l .left) (getD (c .before .before .before .before .before .before .args .lowests .now) (l .left) 0) (c .minus .result)
+first c = take-lowest (c .before .before .before .before .loop .inv .small) (c .before .before .before .loop-test .taken) (c .before .before .before .before .before .before .pre .3) (c .before .single .ensures) (c .minus .ensures)
+
 add-count : tie.Need-add-count Inv-loop μ-loop
 add-count c = search needs
 
 loop-holds : tie.Need-loop-holds Inv-loop μ-loop
-loop-holds c = let a = c .before .args in
-    (search needs, c .before .pre .2, omega arith, sym (fan-walk (a .n) (a .links) (a .fault) (a .plan .now) (a .f) (a .command) (a .sources) (members (a .receivers)) (a .start) (a .before)))
+loop-holds c = let s = c .before in taking-starts (search needs) (s .pre .1) (s .pre .2) (receiver-bound _ _ _ _ _ _ _ (s .pre .0)) (fan-walk _ _ _ _ _ _ _ _ _ _)
 
 cast-receiver : tie.Need-cast-receiver Inv-loop μ-loop
 cast-receiver c = search needs
@@ -48,33 +47,27 @@ minus-requires : tie.Need-minus-requires Inv-loop μ-loop
 minus-requires c κs = search needs
 
 check-group-requires : tie.Need-check-group-requires Inv-loop μ-loop
-check-group-requires c κs = (c .before .before .before .before .before .before .pre .0, omega arith)
+check-group-requires c κs = search needs
 
 enum-known-group : tie.Need-enum-known-group Inv-loop μ-loop
 enum-known-group c = search needs
 
 returns : tie.Need-returns Inv-loop μ-loop
 unfolding fanStep
-returns c = let a = c .before .before .before .before .before .before .before .before .before .before .args in
-    let l = c .before .before .before .before .before .before .before .before .loop in
-    set-halts (fanStep (a .n) (a .links) (a .fault) (a .plan .now) (a .f) (a .command) (a .sources)) _ (l .left) (l .at) (l .carriages) (l .inv .3) (l .inv .0) (c .before .before .before .before .before .before .before .loop-test .taken) _ _ _ (c .before .before .before .before .before .before .before .before .before .before .pre .3 .entry (l .left) (l .inv .0)) (c .before .before .before .before .before .single .ensures) (c .before .before .before .before .minus .ensures) _ (c .before .before .before .check-group .ensures) _ (c .before .group .given .1)
+returns c = taking-halts (c .before .before .before .before .before .before .before .before .loop .inv) (first (c .before .before .before .before)) (c .before .before .before .check-group .ensures) (c .before .group .given .1)
 
 enum-known-group-2 : tie.Need-enum-known-group-2 Inv-loop μ-loop
 enum-known-group-2 c = search needs
 
 loop-less : tie.Need-loop-less Inv-loop μ-loop
-loop-less c = let a = c .before .before .before .before .before .before .before .before .before .before .args in
-    let l = c .before .before .before .before .before .before .before .before .loop in
-    set-less (fanStep (a .n) (a .links) (a .fault) (a .plan .now) (a .f) (a .command) (a .sources)) _ (l .left) (l .at) (l .carriages) (l .inv .3) (l .inv .0) (c .before .before .before .before .before .before .before .loop-test .taken) _ _ _ (c .before .before .before .before .before .before .before .before .before .before .pre .3 .entry (l .left) (l .inv .0)) (c .before .before .before .before .before .single .ensures) (c .before .before .before .before .minus .ensures)
+loop-less c = taken-less (first (c .before .before .before .before))
 
 loop-again : tie.Need-loop-again Inv-loop μ-loop
 unfolding fanStep
-loop-again c = let a = c .before .before .before .before .before .before .before .before .before .before .args in
-    let l = c .before .before .before .before .before .before .before .before .loop in
-    set-moves (fanStep (a .n) (a .links) (a .fault) (a .plan .now) (a .f) (a .command) (a .sources)) _ (l .left) (l .at) (l .carriages) (l .inv .3) (l .inv .0) (c .before .before .before .before .before .before .before .loop-test .taken) _ _ _ (c .before .before .before .before .before .before .before .before .before .before .pre .3 .entry (l .left) (l .inv .0)) (c .before .before .before .before .before .single .ensures) (c .before .before .before .before .minus .ensures) _ (c .before .before .before .check-group .ensures) 1 (length (a .plan .now)) (receiver-bound (a .n) (a .links) (a .fault) (a .plan .now) (a .f) (a .command) (a .sources) (c .before .before .before .before .before .before .before .before .before .before .pre .0) _ (l .at) (l .carriages) (l .inv .1) (l .inv .2)) _ _ (c .before .group2 .given .1)
+loop-again c = taking-moves (c .before .before .before .before .before .before .before .before .loop .inv) (first (c .before .before .before .before)) (c .before .before .before .check-group .ensures) (c .before .group2 .given .1)
 
 returns-2 : tie.Need-returns-2 Inv-loop μ-loop
-returns-2 c = let a = c .before .before .before .args in let l = c .before .loop in set-done (fanStep (a .n) (a .links) (a .fault) (a .plan .now) (a .f) (a .command) (a .sources)) _ (l .left) (l .at) (l .carriages) (l .inv .3) (search needs)
+returns-2 c = taking-ends (c .before .loop .inv) (search needs)
 
 pub check-fan-spec : {M : Type 1} → statement M
 check-fan-spec =
