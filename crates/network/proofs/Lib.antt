@@ -1,16 +1,14 @@
--- Main          the theorems that a user relies on
+-- Main          what a user relies on
 -- Marks         marks past a row's end, or past the rows
 -- Reading       the card reader's loop: what is left to read gives the answer of the whole
 -- Accepted      what the commands of an accepted card are
 -- Networks      the network of an accepted card is proper
 -- Heads         what the reader's answer says of the split test
--- Search        what a search over one range, and over three nested ones, finds
--- Neighbours    counts of incoming neighbours, of numbers and of arbitrary sets
+-- Search        what a search over one range finds
+-- Neighbours    tests that agree below n
 -- SourceRows    the rows of sources, as the code makes and reads them
--- Partitions    splits of numbers against partitions into arbitrary sets
 -- Weakness      why the split test may look at one side at a time
 -- Scans         the three nested scans
--- Theorem       the first bad split against Theorem 1's condition
 pub mod Main
 pub mod Marks
 pub mod Reading
@@ -20,7 +18,5 @@ pub mod Heads
 pub mod Search
 pub mod Neighbours
 mod SourceRows
-pub mod Partitions
 mod Weakness
 mod Scans
-pub mod Theorem

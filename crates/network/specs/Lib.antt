@@ -4,7 +4,6 @@
 -- Proper       what holds of the network of every accepted card
 -- Split        the splits of V in their order, and the first bad one
 -- Weak         what makes the split test fast
--- Condition    Theorem 1 of the paper, over arbitrary sets
 -- Answers      what the code's answers stand for
 pub mod Links
 pub mod Card
@@ -12,5 +11,4 @@ pub mod Places
 pub mod Proper
 pub mod Split
 pub mod Weak
-pub mod Condition
 pub mod Answers

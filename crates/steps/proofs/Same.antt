@@ -65,7 +65,7 @@ pub brought-arrives : (X : ℕ) (table : List ℕ) (k : ℕ) (t : ℕ → ℕ) (
 unfolding brought arrives
 brought-arrives X table k t c h =
     let e : some (has X) (getD (c .before) 0 0 ∷ drop 1 (c .before)) ≡ hit X (c .before) = ap (some (has X)) (whole (c .before) h) ∙ sym (hit-some X (c .before)) in
-    ap (λ (b : Bool). cond b (message table k) (t (getD (c .before) 0 0))) (sym e)
+    ap (λ (b : Bool). cond b (pathOf table k c .spoiled) (t (getD (c .before) 0 0))) (sym e)
 
 pub heard-arrives : (X : ℕ) (table : List ℕ) (k : ℕ) (t : ℕ → ℕ) (cs : List Carriage) (r : ℕ) → Each Starts cs
     → heard X table k t cs r ≡ map (arrives (has X) t) (pathsTo table k cs r)
@@ -107,7 +107,7 @@ spoiled-small table k [] r = λ p m. elim m [ ]
 spoiled-small table k (c ∷ cs) r =
     let ih = spoiled-small table (suc k) cs r in
     by-cond (λ (l : List Path). Each (λ (p : Path). p .spoiled < 3) l) (eqb (c .receiver) r) _ _
-    (λ e. first (pathOf table k c) (pathsTo table (suc k) cs r) (message-small table k) ih)
+    (λ e. first (pathOf table k c) (pathsTo table (suc k) cs r) (message-small table _) ih)
     (λ e. ih)
   where
     first : (q : Path) (l : List Path) → q .spoiled < 3 → Each (λ (p : Path). p .spoiled < 3) l → Each (λ (p : Path). p .spoiled < 3) (q ∷ l)

@@ -39,7 +39,9 @@ loop-less : tie.Need-loop-less Inv-loop μ-loop
 loop-less c = search needs
 
 loop-again : tie.Need-loop-again Inv-loop μ-loop
-loop-again c = (omega arith, set-turn _ _ (c .before .before .before .loop-test .taken) (c .before .before .before .before .loop .inv .0) _ _ _ (c .before .before .before .before .loop .inv .1) (c .before .single .ensures) (c .union .ensures))
+loop-again c =
+    let l = c .before .before .before .before .loop in
+    (omega arith, set-turn _ (l .left) (omega arith) (l .inv .0) _ _ _ (l .inv .1) (c .before .single .ensures) (c .union .ensures))
 
 returns : tie.Need-returns Inv-loop μ-loop
 returns c = let e : c .before .loop .left ≡ 0 = omega arith in rw e at (c .before .loop .inv .1)

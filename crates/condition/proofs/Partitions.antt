@@ -16,11 +16,11 @@ use Rattle.sets.specs.Sets.{Set, In, has, union, meet, minus, full, count, size
 use Rattle.sets.proofs.Members.{has-union, has-meet, has-minus, has-full, has-empty, has-below, no-member, meet-small}
 use Rattle.sets.proofs.Counts.{count-same, size-count}
 use Rattle.sets.proofs.LowestMember.{lowest-in}
 use Rattle.network.specs.Links.{Links, linkedIn}
 use Rattle.network.specs.Split.{rest, held, isSplit, isBad}
-use Rattle.network.specs.Condition.{neighbour, Arrow, joined, Partition, Some, Broken}
+use Rattle.condition.specs.Condition.{neighbour, Arrow, joined, Partition, Some, Broken}
 use Rattle.network.proofs.Search.{breaks}
-use Rattle.network.proofs.Neighbours.{Agree, Apart, held-count}
+use Rattle.condition.proofs.Neighbours.{Agree, Apart, held-count}
 
 -- emptiness
 

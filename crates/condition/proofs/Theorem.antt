@@ -15,11 +15,12 @@ use borrow.Author.Tests.{ltb-true, ltb-false}
 use Rattle.facts.proofs.Bools.{cases, clash, is-false}
 use Rattle.sets.specs.Sets.{Set, Edges, has, union, minus, full, count, encode}
 use Rattle.sets.proofs.Members.{minus-small, full-small, encode-has, encode-small}
 use Rattle.network.specs.Links.{Links, linkedIn}
 use Rattle.network.specs.Split.{good, bad, rest, firstBad}
-use Rattle.network.specs.Condition.{neighbour, Arrow, joined, Broken, Condition, Earlier}
-use Rattle.network.proofs.Search.{breaks, firstBad-good, firstBad-all, firstBad-bad}
-use Rattle.network.proofs.Partitions.{breaks-broken, broken-breaks}
+use Rattle.condition.specs.Condition.{neighbour, Arrow, joined, Broken, Condition, Earlier}
+use Rattle.network.proofs.Search.{breaks}
+use Rattle.condition.proofs.Search.{firstBad-good, firstBad-all, firstBad-bad}
+use Rattle.condition.proofs.Partitions.{breaks-broken, broken-breaks}
 
 -- an arrow, or the lack of one
 arrow-cases {ℓ} : {D : Type ℓ} (n f : ℕ) (E : Edges) (A B : Set) → (Arrow n f E A B → D) → ((Arrow n f E A B → ⊥) → D) → D
