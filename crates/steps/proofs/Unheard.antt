@@ -1,6 +1,7 @@
 -- Bytes of the message table past the last carriage have no effect: what is brought by a carriage depends on the table's byte of its number alone.
 --     message-same     tables that begin alike have the same message for each number that far
 --     heard-same       so what is heard by carriages with such numbers; gather-same, compare-same, told-same: so what a step gives
+--     carriages-long   how many carriages a block has, kind by kind
 --     block-alike      so what a block gives; blocks-alike: so what the blocks of a list give
 --     unheard          the statement
 -- Assumes nothing.
@@ -35,6 +36,19 @@ pub message-same : (c : ℕ) (table table′ : List ℕ) → take c table ≡ ta
 unfolding message
 message-same c table table′ e k h = ap (λ (b : ℕ). cond (ltb b 2) b 2) (part-at c table table′ e k h)
 
+-- how many carriages a block has, kind by kind
+carriages-long : (b : Block)
+    → length (carriagesOf b) ≡ length (map carriageOf (b .inward)) + length (map carriageOf (b .among)) + length (map carriageOf (b .outward)) + length (reportCarriages (b .reports))
+unfolding carriagesOf
+carriages-long b =
+    let i = map carriageOf (b .inward) in
+    let a = map carriageOf (b .among) in
+    let o = map carriageOf (b .outward) in
+    let x = length-append (i ++ a ++ o) (reportCarriages (b .reports)) in
+    let y = length-append (i ++ a) o in
+    let z = length-append i a in
+    omega arith
+
 -- X is the faulty set, c the number of carriages
 module _ (X c : ℕ) (table table′ : List ℕ) (alike : (k : ℕ) → k < c → message table k ≡ message table′ k) where
   brought-same : (k : ℕ) → k < c → (g : ℕ → ℕ) (x : Carriage) → brought X table k g x ≡ brought X table′ k g x
@@ -65,19 +79,6 @@ module _ (X c : ℕ) (table table′ : List ℕ) (alike : (k : ℕ) → k < c �
     told-same F v =
         values-ext _ _
         (λ i below. ap (λ (l : List ℕ). cond (has F i && ltb (common l) 2) (common l) (held v i)) (heard-same cs k fits (held v) i))
-
-  -- how many carriages a block has, kind by kind
-  carriages-long : (b : Block)
-      → length (carriagesOf b) ≡ length (map carriageOf (b .inward)) + length (map carriageOf (b .among)) + length (map carriageOf (b .outward)) + length (reportCarriages (b .reports))
-  unfolding carriagesOf
-  carriages-long b =
-      let i = map carriageOf (b .inward) in
-      let a = map carriageOf (b .among) in
-      let o = map carriageOf (b .outward) in
-      let x = length-append (i ++ a ++ o) (reportCarriages (b .reports)) in
-      let y = length-append (i ++ a) o in
-      let z = length-append i a in
-      omega arith
 
   pub block-alike : (n k : ℕ) (b : Block) (s : Values) → k + length (carriagesOf b) ≤ c → runBlock n X table k b s ≡ runBlock n X table′ k b s
   unfolding runBlock

@@ -12,7 +12,7 @@ use mathlib.Core.List.{List, [], _∷_, _++_, List·Memᴰ, List·Memᴰ·head, 
 use Prim.Native.Nat.{ℕ, zero, suc, _+_, _-_, _≤_, _<_}
 use native.Mathlib.Omega.{arith}
 use lib.ListN.{length, getD, take, drop}
-use lib.Seq.{length-take-le}
+use lib.Seq.{length-take-le, getD-take}
 use Rattle.facts.specs.Lists.{Each}
 use Rattle.sets.specs.Sets.{Edges, Out, has}
 use Rattle.network.specs.Links.{Links, linkedIn}
@@ -36,12 +36,6 @@ each-at Q l h s m = let (i, k, e) = mem-at l s m in subst Q (sym e) (h i k)
 way-is : (l : List ℕ) → 1 ≤ length l → (getD l 0 0 ∷ drop 1 l) ≡ l
 way-is [] h = absurd (omega arith)
 way-is (x ∷ xs) h = refl
-
-take-get : (k : ℕ) (l : List ℕ) (i : ℕ) → i < k → getD (take k l) i 0 ≡ getD l i 0
-take-get zero l i h = absurd (omega arith)
-take-get (suc k) [] i h = refl
-take-get (suc k) (x ∷ xs) zero h = refl
-take-get (suc k) (x ∷ xs) (suc i) h = take-get k xs i (omega arith)
 
 -- all but the last, and the last
 take-last : (k : ℕ) (l : List ℕ) → length l ≡ suc k → take k l ++ (getD l k 0 ∷ []) ≡ l
@@ -79,10 +73,10 @@ module _ (n : ℕ) (links : Links) (F : ℕ) (p : Route) (h : IsRoute n links F 
       let t = take-long in
       let m′ : List·Memᴰ s (take (length p - 1) p) = subst (λ (l : List ℕ). List·Memᴰ s l) way-before m in
       let (i, k, e) = mem-at (take (length p - 1) p) s m′ in
-      (i, omega arith, e ∙ take-get (length p - 1) p i (omega arith))
+      (i, omega arith, e ∙ getD-take (length p - 1) p i 0 (omega arith))
 
   pub route-source : getD (take (length p - 1) p) 0 0 ≡ sourceOf p
-  route-source = let two = h .two in take-get (length p - 1) p 0 (omega arith)
+  route-source = let two = h .two in getD-take (length p - 1) p 0 0 (omega arith)
 
   pub route-path : (table : List ℕ) (j : ℕ) → PathTo n (linkedIn links) (has F) (receiverOf p) (pathOf table j (carriageOf p))
   route-path table j =
