@@ -9,9 +9,9 @@
  * way into the depths of card and plan. Each list is handed over in a heap block of exactly its
  * length, so that a read or write one byte outside is an error to the checker.
  *
- * It also holds each answer to what the header promises: no lent byte past n is changed, a refused
- * call changes none, and the bits of the servers that are not faulty are equal and some such
- * server's input.
+ * It also holds each answer to what the header promises: no row of a card has a server that is not
+ * there or its own, a refused card's are empty, no lent byte past n is changed, a refused call changes
+ * none, and the bits of the servers that are not faulty are equal and some such server's input.
  */
 #include "agreement.h"
 
@@ -157,6 +157,16 @@ static void fail(const char *what)
     exit(1);
 }
 
+static void hold_card(const uint64_t answer[12])
+{
+    uint64_t n = answer[0] == AGREEMENT_ANSWERED ? answer[1] : 0;
+    for (unsigned u = 0; u < AGREEMENT_SERVERS; u++) {
+        uint64_t row = answer[4 + u];
+        if (u >= n ? row != 0 : row >> n != 0 || row >> u & 1)
+            fail("a row has a link that cannot be");
+    }
+}
+
 static void hold_run(const uint64_t answer[4], const uint8_t *lent, size_t size, const uint8_t *inputs,
                      uint64_t n, uint8_t faulty)
 {
@@ -187,17 +197,17 @@ static void hold_run(const uint64_t answer[4], const uint8_t *lent, size_t size,
 static int call_all(struct files files, uint64_t *answered)
 {
     const uint8_t *card = start_of(files.card), *plan = start_of(files.plan);
-    uint64_t head[4], split[5], checked[4], ran[4];
+    uint64_t network[12], split[5], checked[4], ran[4];
     int fresh = 0;
-    agreement_read_card(card, files.card.length, head);
-    fresh |= is_new(head, 0);
-    agreement_linked(card, files.card.length, any_byte(), any_byte());
+    agreement_read_card(card, files.card.length, network);
+    fresh |= is_new(network, 0);
+    hold_card(network);
     agreement_split_test(card, files.card.length, split);
     fresh |= is_new(split, 1);
     agreement_check_plan(card, files.card.length, plan, files.plan.length, checked);
     fresh |= is_new(checked, 2);
 
-    uint64_t n = head[0] == AGREEMENT_ANSWERED ? head[1] : draw(10);
+    uint64_t n = network[0] == AGREEMENT_ANSWERED ? network[1] : draw(10);
     uint8_t faulty = files.run_in.length > 0 ? files.run_in.bytes[0] : 0;
     size_t after = files.run_in.length > 0 ? files.run_in.length - 1 : 0;
     size_t count = after < n ? after : (size_t)n;

@@ -9,7 +9,7 @@
  *
  *   - A byte list is a pointer and a length. The pointer is not null, also where the length is 0,
  *     and `length` bytes can be read there (from `lent`: read and written).
- *   - `answer` points to 4 or 5 words, as the declaration says, which the call fills.
+ *   - `answer` points to 4, 5 or 12 words, as the declaration says, which the call fills.
  *   - The bytes and words that a call writes (`lent`, `answer`) lie apart from each other and from
  *     everything that it reads.
  *   These are all the demands. Bytes may have any values and lists any length.
@@ -47,7 +47,6 @@
 #ifndef AGREEMENT_H
 #define AGREEMENT_H
 
-#include <stdbool.h>
 #include <stddef.h>
 #include <stdint.h>
 
@@ -72,15 +71,12 @@ enum {
 
 /*
  * Reads a network card.
- * answer: 0, n, f, 0; or 2, AGREEMENT_CARD, number, place.
+ * answer: 0, n, f, 0 and eight rows. Row u, the word answer[4 + u], is the set of servers that u has
+ * a link to: server v is in it exactly if the card has a link from u to v. So it has servers of the
+ * network only, u is not in it, and it is 0 where u is no server.
+ * Or answer: 2, AGREEMENT_CARD, number, place and eight zeros.
  */
-void agreement_read_card(const uint8_t *card, size_t card_length, uint64_t answer[4]);
-
-/*
- * Whether the card is accepted and its network has a link from u to v. False for a refused card and
- * for a u or v that is no server.
- */
-bool agreement_linked(const uint8_t *card, size_t card_length, uint8_t u, uint8_t v);
+void agreement_read_card(const uint8_t *card, size_t card_length, uint64_t answer[12]);
 
 /*
  * The split test: can the servers of this network agree, whichever f of them fail?

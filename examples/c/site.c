@@ -53,27 +53,25 @@ static void print_refusal(const uint64_t answer[])
 }
 
 /* Servers outside the set and outside F that have a link into it. */
-static uint64_t heard_by(struct file card, uint64_t set, uint64_t fault)
+static uint64_t heard_by(const uint64_t rows[], uint64_t set, uint64_t fault)
 {
     uint64_t sources = 0;
     for (unsigned u = 0; u < AGREEMENT_SERVERS; u++)
-        for (unsigned v = 0; v < AGREEMENT_SERVERS; v++)
-            if (!((set | fault) >> u & 1) && set >> v & 1 &&
-                agreement_linked(card.bytes, card.length, (uint8_t)u, (uint8_t)v))
-                sources |= UINT64_C(1) << u;
+        if (!((set | fault) >> u & 1) && (rows[u] & set) != 0)
+            sources |= UINT64_C(1) << u;
     return sources;
 }
 
-static void explain_side(struct file card, uint64_t side, uint64_t fault, uint64_t f)
+static void explain_side(const uint64_t rows[], uint64_t side, uint64_t fault, uint64_t f)
 {
     fputs("  offices", stdout);
     print_set(side);
     fputs(" hear, of the others, only", stdout);
-    print_set(heard_by(card, side, fault));
+    print_set(heard_by(rows, side, fault));
     printf(": no more than %" PRIu64 ", so that all they hear may be false\n", f);
 }
 
-static void explain_split(struct file card, const uint64_t split[], uint64_t f)
+static void explain_split(const uint64_t rows[], const uint64_t split[], uint64_t f)
 {
     fputs("bad split: offices", stdout);
     print_set(split[2]);
@@ -82,8 +80,8 @@ static void explain_split(struct file card, const uint64_t split[], uint64_t f)
     fputs(" could be split, with", stdout);
     print_set(split[1]);
     puts(" failing");
-    explain_side(card, split[2], split[1], f);
-    explain_side(card, split[4], split[1], f);
+    explain_side(rows, split[2], split[1], f);
+    explain_side(rows, split[4], split[1], f);
 }
 
 int main(int argc, char **argv)
@@ -96,20 +94,21 @@ int main(int argc, char **argv)
     struct file plan = read_file(argv[1], "network.plan");
     struct file run_in = read_file(argv[1], "run.in");
 
-    uint64_t head[4];
-    agreement_read_card(card.bytes, card.length, head);
-    if (head[0] == AGREEMENT_REFUSED) {
-        print_refusal(head);
+    uint64_t network[12];
+    agreement_read_card(card.bytes, card.length, network);
+    if (network[0] == AGREEMENT_REFUSED) {
+        print_refusal(network);
         return 0;
     }
-    uint64_t n = head[1];
-    uint64_t f = head[2];
+    uint64_t n = network[1];
+    uint64_t f = network[2];
+    const uint64_t *rows = network + 4;
     printf("%" PRIu64 " offices, at most %" PRIu64 " failing\n", n, f);
 
     uint64_t split[5];
     agreement_split_test(card.bytes, card.length, split);
     if (split[0] == AGREEMENT_BAD_SPLIT) {
-        explain_split(card, split, f);
+        explain_split(rows, split, f);
         return 0;
     }
     puts("no bad split: the offices can agree");

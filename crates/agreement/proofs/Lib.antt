@@ -1,2 +1,2 @@
--- Rows    the words of a refusal, from what the refusal crate says of it; the links of a card that is read into rows without marks
+-- Rows    the answers in words, from what the functions below say of them
 mod Rows

@@ -1,26 +1,60 @@
--- The words of a refusal, from what the refusal crate says of it; the words of a run; the links that a card leaves in rows without marks.
+-- The answers in words, from what the functions below say of them.
+--     split-refused    a refusal of the split test
+--     laid             four words and eight rows, laid entry by entry
+--     card-read        an accepted card: the reader's n, f and links are its network
+--     card-refused     a refused card
+--     run-words        a run
 -- Assumes nothing.
-use mathlib.Core.Path.{_≡_, refl, sym, ap, _∙_}
-use mathlib.Core.List.{List, [], _∷_}
-use Prim.Native.Nat.{ℕ}
-use Rattle.refusal.specs.Refused.{Refused, whoseOf, numberOf, placeOf}
-use Rattle.network.specs.Card.{Network, network, refused, linksOf, linksAfter}
-use Rattle.network.specs.Links.{noLinks}
+use mathlib.Core.Path.{_≡_, refl, sym, ap, ap₂, _∙_}
+use mathlib.Core.List.{List, [], _∷_, _++_}
+use Prim.Native.Nat.{ℕ, zero, suc, _+_}
+use native.Mathlib.Omega.{arith}
+use lib.ListN.{length, getD, drop, drop-of-length-le}
+use lib.Seq.{drop-cons}
+use Rattle.refusal.specs.Refused.{Refused, whoseOf, numberOf, placeOf, refusalOf}
+use Rattle.refusal.specs.declared.Refusal.{Refusal}
+use Rattle.network.specs.Card.{Network, network, refused, readCard, head, headOf, linksAfter}
+use Rattle.network.specs.Links.{Links, noLinks, linkedIn}
+use Rattle.network.specs.Rows.{rowsOf}
 use Rattle.network.specs.Split.{Split, unread}
+use Rattle.network.specs.declared.card.Reading.{Reading}
+use Rattle.network.specs.Answers.{readingOf, Answered}
+use Rattle.network.proofs.Heads.{refused-of}
+use Rattle.network.proofs.LinkRows.{rows-none}
 use Rattle.run.specs.declared.call.Ran.{Ran}
-use Rattle.run.specs.Answers.{ranOf, Answered}
-use Rattle.agreement.specs.Words.{splitWords, planWords, RunWords}
+use Rattle.run.specs.Answers.{ranOf}
+use Rattle.run.specs.Answers as Run
+use Rattle.agreement.specs.Words.{refusedWords, cardWords, splitWords, planWords, RunWords}
 
 module _ (r : Refused) (w m p : ℕ) (a : w ≡ whoseOf r) (b : m ≡ numberOf r) (c : p ≡ placeOf r) where
   pub split-refused : (s : Split) → s ≡ unread r → 2 ∷ w ∷ m ∷ p ∷ 0 ∷ [] ≡ splitWords s
   split-refused s e = rw e (cc)
 
-pub links-fresh : (a : Network) → linksAfter a noLinks ≡ linksOf a
-links-fresh (network n f links) = refl
-links-fresh (refused r) = refl
+-- the k entries of l from i on
+abbrev entries : ℕ → ℕ → List ℕ → List ℕ
+entries zero i l = []
+entries (suc k) i l = getD l i 0 ∷ entries k (suc i) l
 
--- the run's answer, in words
-pub run-words : (card plan inputs : List ℕ) (X : ℕ) (table lent : List ℕ) (r : Ran) (after words : List ℕ) → Answered card plan inputs X table lent r after
+entries-are : (k i : ℕ) (l : List ℕ) → length l ≡ i + k → entries k i l ≡ drop i l
+entries-are zero i l h = sym (drop-of-length-le l {i = i} (omega arith))
+entries-are (suc k) i l h = let ih = entries-are k (suc i) l (omega arith) in let d = drop-cons l i 0 (omega arith) in cc
+
+pub laid : (front rows : List ℕ) → length front ≡ 4 → length rows ≡ 8 → (all : List ℕ) → rows ≡ all → entries 4 0 front ++ entries 8 0 rows ≡ front ++ all
+laid front rows h k all e = ap₂ (λ (x y : List ℕ). x ++ y) (entries-are 4 0 front (omega arith)) (entries-are 8 0 rows (omega arith) ∙ e)
+
+network-is : (a : Network) (n f : ℕ) (lent links : Links) → head n f ≡ headOf a → links ≡ linksAfter a lent → network n f links ≡ a
+network-is (network m g own) n f lent links e q = let p : n ≡ m = cc in let o : f ≡ g = cc in cc
+network-is (refused r) n f lent links e q = cc
+
+module _ (s : List ℕ) (lent links : Links) (reading : Reading) (a : Answered s lent reading links) (words : List ℕ) where
+  pub card-read : (n f : ℕ) → reading ≡ Reading.Network n f → words ≡ cardWords (network n f links) → words ≡ cardWords (readCard s)
+  card-read n f e w = w ∙ ap cardWords (network-is (readCard s) n f lent links (sym (ap readingOf e) ∙ a .reading) (a .links))
+
+  pub card-refused : (r : Refusal) → reading ≡ Reading.Refused r → (front : List ℕ) → front ≡ refusedWords (refusalOf r)
+      → words ≡ front ++ rowsOf (linkedIn noLinks) → words ≡ cardWords (readCard s)
+  card-refused r e front h w = w ∙ rw (h, rows-none, refused-of (readCard s) (refusalOf r) (sym (a .reading) ∙ ap readingOf e)) refl
+
+pub run-words : (card plan inputs : List ℕ) (X : ℕ) (table lent : List ℕ) (r : Ran) (after words : List ℕ) → Run.Answered card plan inputs X table lent r after
     → words ≡ planWords (ranOf r) → RunWords card plan inputs X table lent after words
 run-words card plan inputs X table lent r after words a w =
     record {

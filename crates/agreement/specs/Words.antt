@@ -1,24 +1,25 @@
 -- The answers as rows of words, for callers without our enums. The first word says what the others are: 0 answered, 1 a bad split, 2 refused.
 -- A refusal's words are what is at fault (0 card, 1 plan, 2 call), the number and the place.
 use mathlib.Core.Path.{_≡_}
-use mathlib.Core.List.{List, [], _∷_}
+use mathlib.Core.List.{List, [], _∷_, _++_}
 use Prim.Native.Nat.{ℕ}
 use Rattle.refusal.specs.Refused.{Refused, whoseOf, numberOf, placeOf}
-use Rattle.network.specs.Card.{Head, head, turned}
+use Rattle.network.specs.Card.{Network, network, refused, readCard}
+use Rattle.network.specs.Links.{Links, linkedIn}
+use Rattle.network.specs.Rows.{rowsOf}
 use Rattle.network.specs.Split.{Split, good, bad, unread}
 use Rattle.plan.specs.Check.{Totals, totals}
 use Rattle.plan.specs.Check as Check
-use Rattle.network.specs.Links.{Links}
-use Rattle.network.specs.Card.{network, readCard}
 use Rattle.steps.specs.Run.{runPlan, lentAfter}
 use Rattle.steps.specs.Demand.{Agreed}
 
 abbrev pub refusedWords : Refused → List ℕ
 refusedWords r = 2 ∷ whoseOf r ∷ numberOf r ∷ placeOf r ∷ []
 
-abbrev pub headWords : Head → List ℕ
-headWords (head n f) = 0 ∷ n ∷ f ∷ 0 ∷ []
-headWords (turned r) = refusedWords r
+-- n, f and the eight rows: row u is the set of servers that u has a link to
+abbrev pub cardWords : Network → List ℕ
+cardWords (network n f links) = 0 ∷ n ∷ f ∷ 0 ∷ rowsOf (linkedIn links)
+cardWords (refused r) = refusedWords r ++ 0 ∷ 0 ∷ 0 ∷ 0 ∷ 0 ∷ 0 ∷ 0 ∷ 0 ∷ []
 
 abbrev pub splitWords : Split → List ℕ
 splitWords good = 0 ∷ 0 ∷ 0 ∷ 0 ∷ 0 ∷ []

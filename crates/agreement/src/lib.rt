@@ -2,6 +2,7 @@
 // words that the caller lends and this library fills; no call asks anything of its arguments.
 use network::card;
 use network::card::Reading;
+use network::links;
 use network::split;
 use network::split::SplitAnswer;
 use plan::check;
@@ -10,12 +11,14 @@ use refusal::Refusal;
 use run::call;
 use run::call::Ran;
 ghost use mathlib.Core.Path.{_≡_};
+ghost use mathlib.Core.List.{_++_};
 ghost use Rattle.refusal.specs.Refused.{refusalOf};
+ghost use Rattle.network.specs.Card.{readCard};
 ghost use Rattle.network.specs.Links.{linkedIn};
-ghost use Rattle.network.specs.Card.{readCard, headOf, linksOf};
+ghost use Rattle.network.specs.Rows.{rowsOf};
 ghost use Rattle.network.specs.Split.{splitTest};
 ghost use Rattle.plan.specs.Check.{totals, checkPlan};
-ghost use Rattle.agreement.specs.Words.{refusedWords, headWords, splitWords, planWords, RunWords};
+ghost use Rattle.agreement.specs.Words.{refusedWords, cardWords, splitWords, planWords, RunWords};
 
 // 2, what is at fault, the refusal's number, its place.
 fn refused_words(r: Refusal) -> [u64; 4]
@@ -34,32 +37,46 @@ fn total_words(blocks: usize, carriages: usize) -> [u64; 4]
     [0, blocks as u64, carriages as u64, 0]
 }
 
-// Reads a card. The answer is 0, n, f, 0; or 2, what is at fault, the refusal's number, its place.
+// Four words, then for each of the eight servers the set of servers that it has a link to.
+fn card_words(head: [u64; 4], links: [[bool; 8]; 8]) -> [u64; 12]
+    ensures { λ w. ⌜ w ≡ head ++ rowsOf (linkedIn links) ⌝ }
+{
+    let rows = links::rows(links);
+    [
+        head[0],
+        head[1],
+        head[2],
+        head[3],
+        rows[0] as u64,
+        rows[1] as u64,
+        rows[2] as u64,
+        rows[3] as u64,
+        rows[4] as u64,
+        rows[5] as u64,
+        rows[6] as u64,
+        rows[7] as u64,
+    ]
+}
+
+// Reads a card. The answer is 0, n, f, 0 and eight rows, row u the set of servers that u has a link
+// to; or 2, what is at fault, the refusal's number, its place and eight zeros.
 #[no_mangle]
-pub extern "C" fn agreement_read_card(card: &[u8], answer: &mut [u64; 4])
-    ensures { λ r. ⌜ now (answer .exit) ≡ headWords (headOf (readCard (now (card .entry)))) ⌝ }
+pub extern "C" fn agreement_read_card(card: &[u8], answer: &mut [u64; 12])
+    ensures { λ r. ⌜ now (answer .exit) ≡ cardWords (readCard (now (card .entry))) ⌝ }
 {
     let mut links = [[false; 8]; 8];
     let reading = card::read_card(card, &mut links);
     match reading {
         Reading::Network { n, f } => {
-            *answer = [0, n as u64, f as u64, 0];
+            let words = card_words([0, n as u64, f as u64, 0], links);
+            *answer = words;
         }
         Reading::Refused(r) => {
-            let words = refused_words(r);
+            let head = refused_words(r);
+            let words = card_words(head, [[false; 8]; 8]);
             *answer = words;
         }
     }
-}
-
-// The card's network has a link from u to v; no link where the card is refused.
-#[no_mangle]
-pub extern "C" fn agreement_linked(card: &[u8], u: u8, v: u8) -> bool
-    ensures { λ r. ⌜ r ≡ linkedIn (linksOf (readCard (now (card .entry)))) u v ⌝ }
-{
-    let mut links = [[false; 8]; 8];
-    let _reading = card::read_card(card, &mut links);
-    network::links::linked(links, u, v)
 }
 
 // The split test. The answer is 0, 0, 0, 0, 0 where no split is bad; 1, F, L, C, R, the first bad

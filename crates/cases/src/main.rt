@@ -3,7 +3,8 @@
 //
 // A case is a byte for its kind and then its parts; a part is its length in three bytes, high byte
 // first, and its bytes.
-//     c CARD                                   the words of the card reader and of the split test
+//     c CARD                                   the first four words of the card reader, and the words
+//                                              of the split test
 //     p CARD PLAN                              the words of the plan check
 //     r CARD PLAN INPUTS FAULTY TABLE BUFFER   the words of the run, and the lent bytes after it
 //     t CARD PLAN RUN                          what rehearse prints
@@ -82,9 +83,9 @@ fn end_line() {
 }
 
 fn card_case(card: &[u8]) {
-    let mut head = [9u64; 4];
-    agreement::agreement_read_card(card, &mut head);
-    print_words(head);
+    let mut network = [9u64; 12];
+    agreement::agreement_read_card(card, &mut network);
+    print_words([network[0], network[1], network[2], network[3]]);
     let mut split = [9u64; 5];
     agreement::agreement_split_test(card, &mut split);
     for i in 0..5usize {

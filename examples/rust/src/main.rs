@@ -4,6 +4,7 @@
 //! cargo run --release --manifest-path rust/Cargo.toml -p site -- FOLDER
 //! ```
 
+use agreement::Network;
 use reference::{Refusal, Split};
 use std::path::{Path, PathBuf};
 use std::{env, fs, process};
@@ -24,19 +25,20 @@ fn site(folder: &Path) -> Result<String, Refusal> {
     let [card, plan, run_in] = ["network.card", "network.plan", "run.in"]
         .map(|name| fs::read(folder.join(name)).unwrap_or_default());
 
-    let (n, _) = agreement::read_size(&card)?;
+    let network = agreement::read_card(&card)?;
     if let Some(split) = agreement::split_test(&card)? {
-        return Ok(why_split(&card, split));
+        return Ok(why_split(&network, split));
     }
+    let n = usize::from(network.n);
 
     // run.in: the faulty set, the n inputs, the message table.
     let (&faulty, rest) = run_in.split_first().unwrap_or((&0, &[]));
-    let (inputs, table) = rest.split_at(rest.len().min(usize::from(n)));
+    let (inputs, table) = rest.split_at(rest.len().min(n));
     let mut lent = [0; 8];
     agreement::run(&card, &plan, inputs, faulty, table, &mut lent)?;
 
     let mut text = String::new();
-    for (office, byte) in lent[..usize::from(n)].iter().enumerate() {
+    for (office, byte) in lent[..n].iter().enumerate() {
         let shows = match byte {
             0 => "shows open",
             1 => "shows closed",
@@ -48,22 +50,21 @@ fn site(folder: &Path) -> Result<String, Refusal> {
 }
 
 /// Why no plan can make the two sides of a bad split agree.
-fn why_split(card: &[u8], split: Split) -> String {
+fn why_split(network: &Network, split: Split) -> String {
     format!(
         "offices {} and offices {} could be split: the first hear only {} of the others, the second only {}\n",
         offices(split.l),
         offices(split.r),
-        offices(heard_by(card, split.l, split.f)),
-        offices(heard_by(card, split.r, split.f)),
+        offices(heard_by(network, split.l, split.f)),
+        offices(heard_by(network, split.r, split.f)),
     )
 }
 
 /// The servers outside the side and the fault set that have a link into the side.
-fn heard_by(card: &[u8], side: u8, fault_set: u8) -> u8 {
-    let has = |set: u8, i: u8| set >> i & 1 == 1;
+fn heard_by(network: &Network, side: u8, fault_set: u8) -> u8 {
     (0..8)
-        .filter(|&u| !has(side | fault_set, u))
-        .filter(|&u| (0..8).any(|v| has(side, v) && agreement::linked(card, u, v)))
+        .filter(|u| (side | fault_set) >> u & 1 == 0)
+        .filter(|&u| network.rows[u] & side != 0)
         .fold(0, |set, u| set | 1 << u)
 }
 

@@ -5,22 +5,21 @@
 //! contracts, not this crate, say why the answers are right. What is done here is
 //! to hand card, plan and whatever else a call takes over as pointer and length, and
 //! to put the numbers that come back into the types of the crate `reference`, so that
-//! both implementations can be called, and compared, in the same way.
+//! both implementations can be called, and compared, in the same way. Only a card's
+//! network has a type of its own here, with links as the library has them.
 //!
 //! This is the only crate of the workspace with `unsafe` in it, one call a block.
 
 #![deny(unsafe_op_in_unsafe_fn)]
 
-use reference::{Network, Refusal, Split, Totals};
+use reference::{Refusal, Split, Totals};
 
 /// The exported functions of `libagreement.a`, as its C declarations give them.
 mod library {
     extern "C" {
-        /// Writes {0, n, f, 0}, or {2, whose, number, place} for a refusal.
-        pub fn agreement_read_card(card: *const u8, length: usize, answer: *mut [u64; 4]);
-
-        /// Whether the card is accepted and has a link from `u` to `v`.
-        pub fn agreement_linked(card: *const u8, length: usize, u: u8, v: u8) -> bool;
+        /// Writes {0, n, f, 0} and eight rows, or {2, whose, number, place} for a
+        /// refusal and eight zeros.
+        pub fn agreement_read_card(card: *const u8, length: usize, answer: *mut [u64; 12]);
 
         /// Writes {0, 0, 0, 0, 0} for no bad split, {1, F, L, C, R} for the first
         /// one, or {2, whose, number, place, 0} for a refusal.
@@ -78,41 +77,34 @@ const LAST_OF_CALL: u64 = 14;
 /// left unwritten would be noticed.
 const UNWRITTEN: u64 = u64::MAX;
 
-/// Answers with the network that `card` describes, or with the first fault found
-/// from the front of the card.
-///
-/// The library hands out links one at a time, so this asks it once for each pair
-/// of servers; [`read_size`] does without them.
-pub fn read_card(card: &[u8]) -> Result<Network, Refusal> {
-    let (n, f) = read_size(card)?;
-    let mut links = [[false; 8]; 8];
-    for u in 0..n {
-        for v in 0..n {
-            links[usize::from(u)][usize::from(v)] = linked(card, u, v);
-        }
-    }
-    Ok(Network { n, f, links })
+/// The network of an accepted card, with its links as sets of servers.
+#[derive(Debug, Clone, Copy, PartialEq, Eq)]
+pub struct Network {
+    /// Number of servers, 2 to 8.
+    pub n: u8,
+    /// How many servers may be faulty, 0 to 2.
+    pub f: u8,
+    /// `rows[u]`: the servers that `u` has a link to, server `v` standing for 2^v.
+    pub rows: [u8; 8],
 }
 
-/// The card reader without the links: how many servers there are and how many of
-/// them may be faulty.
-pub fn read_size(card: &[u8]) -> Result<(u8, u8), Refusal> {
-    let mut answer = [UNWRITTEN; 4];
+/// Answers with the network that `card` describes, or with the first fault found
+/// from the front of the card.
+pub fn read_card(card: &[u8]) -> Result<Network, Refusal> {
+    let mut answer = [UNWRITTEN; 12];
     // SAFETY: pointer and length are those of one live slice, which is only read;
     // an empty slice's pointer is not null either. `answer` is lent for the call
     // alone and nothing else refers to it.
     unsafe { library::agreement_read_card(card.as_ptr(), card.len(), &mut answer) };
-    size_or_refusal(answer)
-        .unwrap_or_else(|| panic!("the card reader cannot answer {answer:?} on {card:02x?}"))
-}
-
-/// Whether `card` is accepted and has a link from `u` to `v`; no server past the
-/// last one has a link.
-pub fn linked(card: &[u8], u: u8, v: u8) -> bool {
-    // SAFETY: pointer and length are those of one live slice, which is only read;
-    // an empty slice's pointer is not null either. Any `u` and `v` are allowed, and
-    // C's bool, which comes back, is 0 or 1 as Rust's is.
-    unsafe { library::agreement_linked(card.as_ptr(), card.len(), u, v) }
+    // One after the other, since an `Option<Result<..>>` of both would be copied on its
+    // way out, and that takes some of the few nanoseconds of a call.
+    if let Some(network) = network(&answer) {
+        return Ok(network);
+    }
+    if let Some(refusal) = card_refusal(&answer) {
+        return Err(refusal);
+    }
+    panic!("the card reader cannot answer {answer:?} on {card:02x?}")
 }
 
 /// Answers with the first bad split of the network on `card`, or with `None` if it
@@ -206,11 +198,27 @@ pub fn run(
     })
 }
 
-/// What the card reader's numbers say; `None` if its contract rules them out.
-fn size_or_refusal(answer: [u64; 4]) -> Option<Result<(u8, u8), Refusal>> {
-    match answer {
-        [ACCEPTED, n @ 2..=8, f @ 0..=2, 0] => Some(Ok((n as u8, f as u8))),
-        [REFUSED, whose, number, place] => Some(Err(refusal(whose, number, place)?)),
+/// The network that the card reader's numbers say; `None` if they say none, or one that
+/// its contract rules out.
+fn network(answer: &[u64; 12]) -> Option<Network> {
+    let [ACCEPTED, n @ 2..=8, f @ 0..=2, 0, words @ ..] = *answer else {
+        return None;
+    };
+    let mut rows = [0; 8];
+    for (row, word) in rows.iter_mut().zip(words) {
+        *row = u8::try_from(word).ok()?;
+    }
+    Some(Network {
+        n: n as u8,
+        f: f as u8,
+        rows,
+    })
+}
+
+/// The refusal that the card reader's numbers say, in the same way.
+fn card_refusal(answer: &[u64; 12]) -> Option<Refusal> {
+    match *answer {
+        [REFUSED, whose, number, place, 0, 0, 0, 0, 0, 0, 0, 0] => refusal(whose, number, place),
         _ => None,
     }
 }
@@ -282,8 +290,17 @@ mod tests {
             c: 0,
             r: 4,
         };
-        assert_eq!(size_or_refusal([0, 3, 1, 0]), Some(Ok((3, 1))));
-        assert_eq!(size_or_refusal([2, 0, 6, 87]), Some(Err(of_card)));
+        let network = Network {
+            n: 3,
+            f: 1,
+            rows: [6, 0, 3, 0, 0, 0, 0, 0],
+        };
+        let accepted = [0, 3, 1, 0, 6, 0, 3, 0, 0, 0, 0, 0];
+        assert_eq!(super::network(&accepted), Some(network));
+        assert_eq!(card_refusal(&accepted), None);
+        let refused = [2, 0, 6, 87, 0, 0, 0, 0, 0, 0, 0, 0];
+        assert_eq!(super::network(&refused), None);
+        assert_eq!(card_refusal(&refused), Some(of_card));
         assert_eq!(split_or_refusal([0; 5]), Some(Ok(None)));
         assert_eq!(split_or_refusal([1, 1, 2, 0, 4]), Some(Ok(Some(bad))));
         assert_eq!(split_or_refusal([2, 0, 6, 87, 0]), Some(Err(of_card)));
@@ -310,16 +327,21 @@ mod tests {
     #[test]
     fn numbers_that_are_no_answer_are_noticed() {
         for answer in [
-            [UNWRITTEN; 4],
-            [0, 3, 1, UNWRITTEN],
-            [0, 1, 0, 0],
-            [0, 9, 0, 0],
-            [0, 2, 3, 0],
-            [1, 2, 0, 0],
-            [2, 3, 6, 87],
-            [2, 0, 256, 87],
+            [UNWRITTEN; 12],
+            [0, 3, 1, UNWRITTEN, 0, 0, 0, 0, 0, 0, 0, 0],
+            [0, 1, 0, 0, 0, 0, 0, 0, 0, 0, 0, 0],
+            [0, 9, 0, 0, 0, 0, 0, 0, 0, 0, 0, 0],
+            [0, 2, 3, 0, 0, 0, 0, 0, 0, 0, 0, 0],
+            [0, 2, 0, 0, 256, 0, 0, 0, 0, 0, 0, 0],
+            [0, 2, 0, 0, 2, 1, 0, 0, 0, 0, 0, UNWRITTEN],
+            [1, 2, 0, 0, 0, 0, 0, 0, 0, 0, 0, 0],
+            [2, 3, 6, 87, 0, 0, 0, 0, 0, 0, 0, 0],
+            [2, 0, 256, 87, 0, 0, 0, 0, 0, 0, 0, 0],
+            [2, 0, 6, 87, 2, 0, 0, 0, 0, 0, 0, 0],
+            [2, 0, 6, 87, 0, 0, 0, 0, 0, 0, 0, UNWRITTEN],
         ] {
-            assert_eq!(size_or_refusal(answer), None, "{answer:?}");
+            assert_eq!(network(&answer), None, "{answer:?}");
+            assert_eq!(card_refusal(&answer), None, "{answer:?}");
         }
         for answer in [
             [UNWRITTEN; 5],
@@ -365,8 +387,12 @@ mod tests {
 
     #[test]
     fn small_networks_of_the_paper() {
-        assert_eq!(read_size(&P1), Ok((2, 0)));
-        assert!(linked(&P1, 0, 1) && !linked(&P1, 1, 0));
+        let network = Network {
+            n: 2,
+            f: 0,
+            rows: [2, 0, 0, 0, 0, 0, 0, 0],
+        };
+        assert_eq!(read_card(&P1), Ok(network));
         assert_eq!(split_test(&P1), Ok(None));
         let empty = Refusal::Card {
             number: 2,
@@ -375,7 +401,6 @@ mod tests {
         assert_eq!(read_card(&[]), Err(empty));
         assert_eq!(split_test(&[]), Err(empty));
         assert_eq!(check_plan(&[], &[]), Err(empty));
-        assert!(!linked(&[], 0, 1));
     }
 
     /// The plan of P5, which fits the card of P1, and the totals of it.

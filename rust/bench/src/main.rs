@@ -51,13 +51,13 @@ fn main() {
         );
     }
     println!();
-    // The library's reader answers with n and f, the reference's with all links; the
-    // library has read the links too by then, as they may be the fault.
+    // Both answer with n, f and all links, the library with a set for each server, the
+    // reference with a mark for each pair.
     heading("card reader");
     for case in &cases {
         row(
             case.name,
-            || agreement::read_size(black_box(&case.card)),
+            || agreement::read_card(black_box(&case.card)),
             || reference::read_card(black_box(&case.card)),
         );
     }

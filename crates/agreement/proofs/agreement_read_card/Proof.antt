@@ -1,12 +1,13 @@
--- `agreement::agreement_read_card` meets its contract. The words are those of the answer that the card reader ensures. Assumes nothing.
-use mathlib.Core.Path.{sym, ap, _∙_}
-use Rattle.network.specs.Answers.{readingOf}
-use Rattle.agreement.specs.Words.{headWords}
+-- `agreement::agreement_read_card` meets its contract. The words are those of the network that the card reader leaves, or of its refusal. Assumes
+-- nothing.
+use Rattle.network.specs.Links.{noLinks}
+use Rattle.agreement.proofs.Rows.{card-read, card-refused}
 use borrow.Author.Needs.{needs}
 use Rattle.agreement.proofs.agreement_read_card.Statement.{statement}
 use Rattle.agreement.proofs.agreement_read_card.Tie as tie
 use Rattle.agreement.proofs.agreement_read_card.Reads as reads
 use Rattle.agreement.proofs.agreement_read_card.Lts as lts
+use Rattle.agreement.proofs.card_words.Reads as card-words-reads
 use Rattle.agreement.proofs.refused_words.Reads as refused-words-reads
 use Rattle.network.proofs.card.read_card.Reads as read-card-reads
 
@@ -16,11 +17,14 @@ read-card-requires c κs = search needs
 enum-known-reading : tie.Need-enum-known-reading
 enum-known-reading c = search needs
 
-cast-t11 : tie.Need-cast-t11
-cast-t11 c = search needs
+cast-t13 : tie.Need-cast-t13
+cast-t13 c = search needs
 
-cast-t12 : tie.Need-cast-t12
-cast-t12 c = search needs
+cast-t14 : tie.Need-cast-t14
+cast-t14 c = search needs
+
+card-words-requires : tie.Need-card-words-requires
+card-words-requires c κs = search needs
 
 enum-known-reading-2 : tie.Need-enum-known-reading-2
 enum-known-reading-2 c = search needs
@@ -28,11 +32,15 @@ enum-known-reading-2 c = search needs
 refused-words-requires : tie.Need-refused-words-requires
 refused-words-requires c κs = search needs
 
+card-words-requires-2 : tie.Need-card-words-requires-2
+card-words-requires-2 c κs = search needs
+
 returns : tie.Need-returns
-returns c = ap headWords (sym (ap readingOf (c .before .before .reading .given .1)) ∙ c .before .before .before .before .read-card .ensures .reading)
+returns c = card-read _ _ _ _ (c .before .before .before .before .read-card .ensures) _ _ _ (c .before .before .reading .given .1) (c .card-words .ensures)
 
 returns-2 : tie.Need-returns-2
-returns-2 c = c .refused-words .ensures ∙ ap headWords (sym (ap readingOf (c .before .before .reading2 .given .1)) ∙ c .before .before .before .before .read-card .ensures .reading)
+unfolding noLinks
+returns-2 c = card-refused _ _ _ _ (c .before .before .before .before .before .read-card .ensures) _ _ (c .before .before .before .reading2 .given .1) _ (c .before .refused-words .ensures) (c .card-words2 .ensures)
 
 pub agreement-read-card-spec : {M : Type 1} → statement M
 agreement-read-card-spec =
@@ -40,9 +48,11 @@ agreement-read-card-spec =
     (tie.spec
     read-card-requires
     enum-known-reading
-    cast-t11
-    cast-t12
+    cast-t13
+    cast-t14
+    card-words-requires
     enum-known-reading-2
     refused-words-requires
+    card-words-requires-2
     returns
     returns-2)

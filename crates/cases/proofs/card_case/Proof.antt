@@ -21,6 +21,18 @@ abbrev μ-loop : tie.MeasureT-loop
 agreement-read-card-requires : tie.Need-agreement-read-card-requires Inv-loop μ-loop
 agreement-read-card-requires c κs = search needs
 
+array-read-t9 : tie.Need-array-read-t9 Inv-loop μ-loop
+array-read-t9 c = search needs
+
+array-read-t12 : tie.Need-array-read-t12 Inv-loop μ-loop
+array-read-t12 c = search needs
+
+array-read-t15 : tie.Need-array-read-t15 Inv-loop μ-loop
+array-read-t15 c = search needs
+
+array-read-t18 : tie.Need-array-read-t18 Inv-loop μ-loop
+array-read-t18 c = search needs
+
 print-words-requires : tie.Need-print-words-requires Inv-loop μ-loop
 print-words-requires c κs = search needs
 
@@ -61,6 +73,10 @@ card-case-spec =
     Inv-loop
     μ-loop
     agreement-read-card-requires
+    array-read-t9
+    array-read-t12
+    array-read-t15
+    array-read-t18
     print-words-requires
     agreement-split-test-requires
     loop-holds

@@ -22,7 +22,7 @@ pub fn given_cards() -> Tally {
     for case in cases(CARDS).map(parse) {
         check("library", &case, &Answers::of_library(&case.card));
         check("reference", &case, &Answers::of_reference(&case.card));
-        // They are alike by now; this counts, and looks at links that cannot be.
+        // They are alike by now; this counts.
         tally.compare(&case.card, format_args!("data/cards.tsv, {}", case.note));
     }
     tally

@@ -38,14 +38,6 @@ impl Tally {
                 hex(card)
             );
         }
-        let n = reference.read.map_or(0, |network| network.n);
-        if let Some((u, v)) = link_past_the_last_server(card, n) {
-            panic!(
-                "the library has a link {u} to {v} that cannot be\n  card       {}\
-                 \n  made by    {made_by}\n  answers    {reference}",
-                hex(card)
-            );
-        }
         self.count(&reference);
     }
 
@@ -71,13 +63,4 @@ impl Display for Tally {
             &self.refused[1..]
         )
     }
-}
-
-/// A link that the library claims on this card although one of its ends is no
-/// server. `n` is 0 for a refused card: none of its links counts, the ones given
-/// before the fault included.
-fn link_past_the_last_server(card: &[u8], n: u8) -> Option<(u8, u8)> {
-    let past = (n..=8).chain([u8::MAX]);
-    past.flat_map(|u| (0..8).flat_map(move |v| [(u, v), (v, u)]))
-        .find(|&(u, v)| agreement::linked(card, u, v))
 }
