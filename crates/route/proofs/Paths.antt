@@ -5,11 +5,12 @@
 --     set-..         the loop that collects the servers
 --     walk-..        the loop from server to server
 --     route-..       the answers of the route check
+--     source-low     a source is one of eight servers
 -- Assumes nothing.
 use mathlib.Core.Path.{_≡_, refl, sym, ap, _∙_}
 use mathlib.Core.Bool.{Bool, true, false, not, _&&_, and-false}
 use mathlib.Core.List.{List, [], _∷_}
-use Prim.Native.Nat.{ℕ, suc, _+_, _-_, _≤_, _<_}
+use Prim.Native.Nat.{ℕ, suc, _+_, _-_, _^_, _≤_, _<_}
 use native.Mathlib.Numerals.{add-one}
 use native.Mathlib.Omega.{arith}
 use lib.ListN.{length, getD, take, drop, drop-of-length-le}
@@ -18,6 +19,7 @@ use lib.Dec.{eqb, ltb}
 use borrow.Author.Tests.{lt-ltb, le-ltb, le-leb, lt-leb, eq-eqb, ne-eqb, ltb-true, ltb-false}
 use Rattle.facts.proofs.Bools.{cases, clash, and-right}
 use Rattle.sets.specs.Sets.{has, union, single}
+use Rattle.sets.proofs.Members.{has-below}
 use Rattle.network.specs.Links.{Links, linkedIn}
 use Rattle.route.specs.Route.{path, isFill, filled, serversOf, goesOn, isPath, isRoute, checkedRoute}
 
@@ -198,11 +200,17 @@ module _ (n : ℕ) (links : Links) (F sources receiver : ℕ) (s : List ℕ) whe
             pub route-broken : r ≡ false → [] ≡ checkedRoute n links F sources receiver s
             route-broken x = none h (route-is ∙ simp (lt-ltb _ _ a, sym e ∙ f, sym g ∙ t, sym v ∙ x))
 
-            pub route-sound : r ≡ true → take end s ≡ checkedRoute n links F sources receiver s
+            -- what is handed back is the part from 0 to the end
+            pub route-sound : r ≡ true → take (end - 0) s ≡ checkedRoute n links F sources receiver s
             unfolding checkedRoute
             route-sound x =
                 let y : isRoute n links F sources receiver (take 8 s) ≡ true = route-is ∙ simp (lt-ltb _ _ a, sym e ∙ f, sym g ∙ t, sym v ∙ x) in
-                sym (simp (le-leb 8 (length s) h, y) path-is)
+                let z : end - 0 ≡ end = omega arith in
+                rw z (sym (simp (le-leb 8 (length s) h, y) path-is))
+
+-- a source is one of eight servers
+pub source-low : (sources i : ℕ) → sources < 2 ^ 8 → (b : Bool) → b ≡ has sources i → b ≡ true → i < 8
+source-low sources i h b e t = has-below 8 sources i h (sym e ∙ t)
 
 -- a route that keeps the rules is handed back with its servers, at least two
 pub route-not-empty : (n : ℕ) (links : Links) (F sources receiver : ℕ) (s : List ℕ) → 8 ≤ length s → isRoute n links F sources receiver (take 8 s) ≡ true
