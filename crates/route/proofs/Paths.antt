@@ -21,6 +21,7 @@ use Rattle.facts.proofs.Bools.{cases, clash, and-right}
 use Rattle.sets.specs.Sets.{has, union, single}
 use Rattle.sets.proofs.Members.{has-below}
 use Rattle.network.specs.Links.{Links, linkedIn}
+use Rattle.network.proofs.Marks.{linked-past-row}
 use Rattle.route.specs.Route.{path, isFill, filled, serversOf, goesOn, isPath, isRoute, checkedRoute}
 
 module _ (m : ℕ) (s : List ℕ) (fits : m ≤ length s) where
@@ -87,38 +88,59 @@ set-turn s left z h set one set′ p q r =
     let d : drop (left - 1) s ≡ getD s (left - 1) 0 ∷ drop left s = drop-cons s (left - 1) 0 (omega arith) ∙ ap (λ (k : ℕ). getD s (left - 1) 0 ∷ drop k s) e in
     r ∙ sym (ap serversOf d ∙ cc)
 
--- the walk from server to server: `last` is the one before, `busy` holds F and the servers so far
-module _ (n : ℕ) (links : Links) (busy last receiver : ℕ) (s : List ℕ) (end : ℕ) (fits : end ≤ length s) (i : ℕ) where
-  module _ (h : i < end) where
-    walk-now : goesOn n links busy last receiver (drop i (take end s))
-        ≡ (ltb (getD s i 0) n && (not (has busy (getD s i 0)) && (linkedIn links last (getD s i 0) && goesOn n links (union busy (single (getD s i 0))) (getD s i 0) receiver (drop (i + 1) (take end s)))))
+-- the walk from server to server along the first `end` servers of s
+abbrev pub walkOf : ℕ → Links → ℕ → ℕ → List ℕ → ℕ → Bool
+walkOf n links F receiver s end = goesOn n links (union F (single (getD s 0 0))) (getD s 0 0) receiver (drop 1 (take end s))
+
+-- i servers are passed, the last of them is `last`, `busy` holds F and them: the walk from here on gives the answer of the whole
+pub record Walking (n : ℕ) (links : Links) (F receiver : ℕ) (s : List ℕ) (end busy last i : ℕ) : Type 0 where
+  pub begun : 1 ≤ i
+  pub inside : i ≤ end
+  pub low : last < 8
+  pub rest : goesOn n links busy last receiver (drop i (take end s)) ≡ walkOf n links F receiver s end
+
+module _ (n : ℕ) (links : Links) (F receiver : ℕ) (s : List ℕ) (end : ℕ) where
+  pub walk-starts : 1 ≤ end → getD s 0 0 < 8 → (one busy : ℕ) → one ≡ single (getD s 0 0) → busy ≡ union F one
+      → Walking n links F receiver s end busy (getD s 0 0) 1
+  walk-starts h k one busy e g = record { begun = omega arith; inside = h; low = k; rest = rw (g, e) refl }
+
+  module _ (fits : end ≤ length s) (busy last i : ℕ) (w : Walking n links F receiver s end busy last i) where
+    pub walk-ends : end ≤ i → eqb last receiver ≡ walkOf n links F receiver s end
     unfolding goesOn
-    walk-now = rw (part-next end s fits i h) refl
+    walk-ends h = sym (rw (part-over end s fits i h) refl) ∙ w .rest
 
-    pub walk-past : n ≤ getD s i 0 → false ≡ goesOn n links busy last receiver (drop i (take end s))
-    walk-past e = sym (walk-now ∙ simp (le-ltb _ _ e))
+    module _ (h : i < end) where
+      walk-now : goesOn n links busy last receiver (drop i (take end s))
+          ≡ (ltb (getD s i 0) n && (not (has busy (getD s i 0)) && (linkedIn links last (getD s i 0) && goesOn n links (union busy (single (getD s i 0))) (getD s i 0) receiver (drop (i + 1) (take end s)))))
+      unfolding goesOn
+      walk-now = rw (part-next end s fits i h) refl
 
-    pub walk-far : linkedIn links last (getD s i 0) ≡ false → false ≡ goesOn n links busy last receiver (drop i (take end s))
-    walk-far e =
-        sym (walk-now ∙ cases (ltb (getD s i 0) n) (λ a. cases (has busy (getD s i 0)) (λ b. simp (a, b)) (λ b. simp (a, b, e))) (λ a. simp a))
+      pub walk-past : n ≤ getD s i 0 → false ≡ walkOf n links F receiver s end
+      walk-past e = sym (walk-now ∙ simp (le-ltb _ _ e)) ∙ w .rest
 
-    module _ (a : getD s i 0 < n) (b : Bool) (p : b ≡ has busy (getD s i 0)) where
-      pub walk-busy : b ≡ true → false ≡ goesOn n links busy last receiver (drop i (take end s))
-      walk-busy t = sym (walk-now ∙ simp (lt-ltb _ _ a, sym p ∙ t))
+      pub walk-far : length (getD links last []) ≡ 8 → 8 ≤ getD s i 0 → false ≡ walkOf n links F receiver s end
+      walk-far r e =
+          let u = linked-past-row links last (getD s i 0) r e in
+          sym (walk-now ∙ cases (ltb (getD s i 0) n) (λ a. cases (has busy (getD s i 0)) (λ b. simp (a, b)) (λ b. simp (a, b, u))) (λ a. simp a)) ∙ w .rest
 
-      module _ (f : b ≡ false) (d : Bool) (q : d ≡ linkedIn links last (getD s i 0)) where
-        pub walk-unlinked : d ≡ false → false ≡ goesOn n links busy last receiver (drop i (take end s))
-        walk-unlinked t = sym (walk-now ∙ simp (lt-ltb _ _ a, sym p ∙ f, sym q ∙ t))
+      module _ (a : getD s i 0 < n) (b : Bool) (p : b ≡ has busy (getD s i 0)) where
+        pub walk-busy : b ≡ true → false ≡ walkOf n links F receiver s end
+        walk-busy t = sym (walk-now ∙ simp (lt-ltb _ _ a, sym p ∙ t)) ∙ w .rest
 
-        pub walk-on : d ≡ true → (one busy′ : ℕ) → one ≡ single (getD s i 0) → busy′ ≡ union busy one
-            → goesOn n links busy′ (getD s i 0) receiver (drop (i + 1) (take end s)) ≡ goesOn n links busy last receiver (drop i (take end s))
-        walk-on t one busy′ e g =
-            let w : busy′ ≡ union busy (single (getD s i 0)) = g ∙ ap (union busy) e in
-            ap (λ (x : ℕ). goesOn n links x (getD s i 0) receiver (drop (i + 1) (take end s))) w ∙ sym (walk-now ∙ simp (lt-ltb _ _ a, sym p ∙ f, sym q ∙ t))
+        module _ (f : b ≡ false) where
+          pub walk-unlinked : getD (getD links last []) (getD s i 0) false ≡ false → false ≡ walkOf n links F receiver s end
+          unfolding linkedIn
+          walk-unlinked t = sym (walk-now ∙ simp (lt-ltb _ _ a, sym p ∙ f, t)) ∙ w .rest
 
-  pub walk-ends : end ≤ i → eqb last receiver ≡ goesOn n links busy last receiver (drop i (take end s))
-  unfolding goesOn
-  walk-ends h = sym (rw (part-over end s fits i h) refl)
+          pub walk-on : getD (getD links last []) (getD s i 0) false ≡ true → getD s i 0 < 8 → (one busy′ : ℕ) → one ≡ single (getD s i 0) → busy′ ≡ union busy one
+              → Walking n links F receiver s end busy′ (getD s i 0) (i + 1)
+          unfolding linkedIn
+          walk-on t k one busy′ e g = record {
+            begun = omega arith;
+            inside = omega arith;
+            low = k;
+            rest = rw (g, e) (sym (walk-now ∙ simp (lt-ltb _ _ a, sym p ∙ f, t)) ∙ w .rest);
+          }
 
 -- the path is the part of the operand before the fill, and what is left is the fill's to fill
 pub path-part : (l : List ℕ) → path l ≡ take (length (path l)) l
