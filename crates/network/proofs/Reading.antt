@@ -71,13 +71,13 @@ module _ (s : List ℕ) (at n f : ℕ) (links : Links) where
       unfolding endAt
       end-first z = step-end ∙ simp (eq-eqb at 0 z)
 
-      pub end-trailing : (at ≡ 0 → ⊥) → at + 1 < length s → stepAt s at n f links ≡ turnedBack 3 (at + 1)
+      pub end-trailing : 0 < at → at + 1 < length s → stepAt s at n f links ≡ turnedBack 3 (at + 1)
       unfolding endAt
-      end-trailing z k = step-end ∙ simp (ne-eqb at 0 z, lt-ltb (at + 1) (length s) k)
+      end-trailing z k = step-end ∙ simp (ne-eqb at 0 (omega arith), lt-ltb (at + 1) (length s) k)
 
-      pub end-read : (at ≡ 0 → ⊥) → length s ≤ at + 1 → stepAt s at n f links ≡ done (network n f links)
+      pub end-read : 0 < at → length s ≤ at + 1 → stepAt s at n f links ≡ done (network n f links)
       unfolding endAt
-      end-read z k = step-end ∙ simp (ne-eqb at 0 z, le-ltb (at + 1) (length s) k)
+      end-read z k = step-end ∙ simp (ne-eqb at 0 (omega arith), le-ltb (at + 1) (length s) k)
 
     module _ (e : getD s at 0 ≡ 1) where
       step-head : stepAt s at n f links ≡ headAt s at links
@@ -89,9 +89,9 @@ module _ (s : List ℕ) (at n f : ℕ) (links : Links) where
       head-cut k = step-head ∙ simp (lt-ltb (length s) (at + 3) (omega arith))
 
       module _ (k : 3 ≤ length s - at) where
-        pub head-again : (at ≡ 0 → ⊥) → stepAt s at n f links ≡ turnedBack 4 at
+        pub head-again : 0 < at → stepAt s at n f links ≡ turnedBack 4 at
         unfolding headAt
-        head-again z = step-head ∙ simp (le-ltb (length s) (at + 3) (omega arith), ne-eqb at 0 z)
+        head-again z = step-head ∙ simp (le-ltb (length s) (at + 3) (omega arith), ne-eqb at 0 (omega arith))
 
         module _ (z : at ≡ 0) (b : Bool) (q : b ≡ headFits (getD s (at + 1) 0) (getD s (at + 2) 0)) where
           pub head-range : b ≡ false → stepAt s at n f links ≡ turnedBack 5 at

@@ -5,11 +5,12 @@
 --     set-..         the loop that collects the servers
 --     walk-..        the loop from server to server
 --     route-..       the answers of the route check
+--     source-low     a source is one of eight servers
 -- Assumes nothing.
 use mathlib.Core.Path.{_≡_, refl, sym, ap, _∙_}
 use mathlib.Core.Bool.{Bool, true, false, not, _&&_, and-false}
 use mathlib.Core.List.{List, [], _∷_}
-use Prim.Native.Nat.{ℕ, suc, _+_, _-_, _≤_, _<_}
+use Prim.Native.Nat.{ℕ, suc, _+_, _-_, _^_, _≤_, _<_}
 use native.Mathlib.Numerals.{add-one}
 use native.Mathlib.Omega.{arith}
 use lib.ListN.{length, getD, take, drop, drop-of-length-le}
@@ -18,7 +19,9 @@ use lib.Dec.{eqb, ltb}
 use borrow.Author.Tests.{lt-ltb, le-ltb, le-leb, lt-leb, eq-eqb, ne-eqb, ltb-true, ltb-false}
 use Rattle.facts.proofs.Bools.{cases, clash, and-right}
 use Rattle.sets.specs.Sets.{has, union, single}
+use Rattle.sets.proofs.Members.{has-below}
 use Rattle.network.specs.Links.{Links, linkedIn}
+use Rattle.network.proofs.Marks.{linked-past-row}
 use Rattle.route.specs.Route.{path, isFill, filled, serversOf, goesOn, isPath, isRoute, checkedRoute}
 
 module _ (m : ℕ) (s : List ℕ) (fits : m ≤ length s) where
@@ -85,38 +88,59 @@ set-turn s left z h set one set′ p q r =
     let d : drop (left - 1) s ≡ getD s (left - 1) 0 ∷ drop left s = drop-cons s (left - 1) 0 (omega arith) ∙ ap (λ (k : ℕ). getD s (left - 1) 0 ∷ drop k s) e in
     r ∙ sym (ap serversOf d ∙ cc)
 
--- the walk from server to server: `last` is the one before, `busy` holds F and the servers so far
-module _ (n : ℕ) (links : Links) (busy last receiver : ℕ) (s : List ℕ) (end : ℕ) (fits : end ≤ length s) (i : ℕ) where
-  module _ (h : i < end) where
-    walk-now : goesOn n links busy last receiver (drop i (take end s))
-        ≡ (ltb (getD s i 0) n && (not (has busy (getD s i 0)) && (linkedIn links last (getD s i 0) && goesOn n links (union busy (single (getD s i 0))) (getD s i 0) receiver (drop (i + 1) (take end s)))))
+-- the walk from server to server along the first `end` servers of s
+abbrev pub walkOf : ℕ → Links → ℕ → ℕ → List ℕ → ℕ → Bool
+walkOf n links F receiver s end = goesOn n links (union F (single (getD s 0 0))) (getD s 0 0) receiver (drop 1 (take end s))
+
+-- i servers are passed, the last of them is `last`, `busy` holds F and them: the walk from here on gives the answer of the whole
+pub record Walking (n : ℕ) (links : Links) (F receiver : ℕ) (s : List ℕ) (end busy last i : ℕ) : Type 0 where
+  pub begun : 1 ≤ i
+  pub inside : i ≤ end
+  pub low : last < 8
+  pub rest : goesOn n links busy last receiver (drop i (take end s)) ≡ walkOf n links F receiver s end
+
+module _ (n : ℕ) (links : Links) (F receiver : ℕ) (s : List ℕ) (end : ℕ) where
+  pub walk-starts : 1 ≤ end → getD s 0 0 < 8 → (one busy : ℕ) → one ≡ single (getD s 0 0) → busy ≡ union F one
+      → Walking n links F receiver s end busy (getD s 0 0) 1
+  walk-starts h k one busy e g = record { begun = omega arith; inside = h; low = k; rest = rw (g, e) refl }
+
+  module _ (fits : end ≤ length s) (busy last i : ℕ) (w : Walking n links F receiver s end busy last i) where
+    pub walk-ends : end ≤ i → eqb last receiver ≡ walkOf n links F receiver s end
     unfolding goesOn
-    walk-now = rw (part-next end s fits i h) refl
+    walk-ends h = sym (rw (part-over end s fits i h) refl) ∙ w .rest
 
-    pub walk-past : n ≤ getD s i 0 → false ≡ goesOn n links busy last receiver (drop i (take end s))
-    walk-past e = sym (walk-now ∙ simp (le-ltb _ _ e))
+    module _ (h : i < end) where
+      walk-now : goesOn n links busy last receiver (drop i (take end s))
+          ≡ (ltb (getD s i 0) n && (not (has busy (getD s i 0)) && (linkedIn links last (getD s i 0) && goesOn n links (union busy (single (getD s i 0))) (getD s i 0) receiver (drop (i + 1) (take end s)))))
+      unfolding goesOn
+      walk-now = rw (part-next end s fits i h) refl
 
-    pub walk-far : linkedIn links last (getD s i 0) ≡ false → false ≡ goesOn n links busy last receiver (drop i (take end s))
-    walk-far e =
-        sym (walk-now ∙ cases (ltb (getD s i 0) n) (λ a. cases (has busy (getD s i 0)) (λ b. simp (a, b)) (λ b. simp (a, b, e))) (λ a. simp a))
+      pub walk-past : n ≤ getD s i 0 → false ≡ walkOf n links F receiver s end
+      walk-past e = sym (walk-now ∙ simp (le-ltb _ _ e)) ∙ w .rest
 
-    module _ (a : getD s i 0 < n) (b : Bool) (p : b ≡ has busy (getD s i 0)) where
-      pub walk-busy : b ≡ true → false ≡ goesOn n links busy last receiver (drop i (take end s))
-      walk-busy t = sym (walk-now ∙ simp (lt-ltb _ _ a, sym p ∙ t))
+      pub walk-far : length (getD links last []) ≡ 8 → 8 ≤ getD s i 0 → false ≡ walkOf n links F receiver s end
+      walk-far r e =
+          let u = linked-past-row links last (getD s i 0) r e in
+          sym (walk-now ∙ cases (ltb (getD s i 0) n) (λ a. cases (has busy (getD s i 0)) (λ b. simp (a, b)) (λ b. simp (a, b, u))) (λ a. simp a)) ∙ w .rest
 
-      module _ (f : b ≡ false) (d : Bool) (q : d ≡ linkedIn links last (getD s i 0)) where
-        pub walk-unlinked : d ≡ false → false ≡ goesOn n links busy last receiver (drop i (take end s))
-        walk-unlinked t = sym (walk-now ∙ simp (lt-ltb _ _ a, sym p ∙ f, sym q ∙ t))
+      module _ (a : getD s i 0 < n) (b : Bool) (p : b ≡ has busy (getD s i 0)) where
+        pub walk-busy : b ≡ true → false ≡ walkOf n links F receiver s end
+        walk-busy t = sym (walk-now ∙ simp (lt-ltb _ _ a, sym p ∙ t)) ∙ w .rest
 
-        pub walk-on : d ≡ true → (one busy′ : ℕ) → one ≡ single (getD s i 0) → busy′ ≡ union busy one
-            → goesOn n links busy′ (getD s i 0) receiver (drop (i + 1) (take end s)) ≡ goesOn n links busy last receiver (drop i (take end s))
-        walk-on t one busy′ e g =
-            let w : busy′ ≡ union busy (single (getD s i 0)) = g ∙ ap (union busy) e in
-            ap (λ (x : ℕ). goesOn n links x (getD s i 0) receiver (drop (i + 1) (take end s))) w ∙ sym (walk-now ∙ simp (lt-ltb _ _ a, sym p ∙ f, sym q ∙ t))
+        module _ (f : b ≡ false) where
+          pub walk-unlinked : getD (getD links last []) (getD s i 0) false ≡ false → false ≡ walkOf n links F receiver s end
+          unfolding linkedIn
+          walk-unlinked t = sym (walk-now ∙ simp (lt-ltb _ _ a, sym p ∙ f, t)) ∙ w .rest
 
-  pub walk-ends : end ≤ i → eqb last receiver ≡ goesOn n links busy last receiver (drop i (take end s))
-  unfolding goesOn
-  walk-ends h = sym (rw (part-over end s fits i h) refl)
+          pub walk-on : getD (getD links last []) (getD s i 0) false ≡ true → getD s i 0 < 8 → (one busy′ : ℕ) → one ≡ single (getD s i 0) → busy′ ≡ union busy one
+              → Walking n links F receiver s end busy′ (getD s i 0) (i + 1)
+          unfolding linkedIn
+          walk-on t k one busy′ e g = record {
+            begun = omega arith;
+            inside = omega arith;
+            low = k;
+            rest = rw (g, e) (sym (walk-now ∙ simp (lt-ltb _ _ a, sym p ∙ f, t)) ∙ w .rest);
+          }
 
 -- the path is the part of the operand before the fill, and what is left is the fill's to fill
 pub path-part : (l : List ℕ) → path l ≡ take (length (path l)) l
@@ -198,11 +222,17 @@ module _ (n : ℕ) (links : Links) (F sources receiver : ℕ) (s : List ℕ) whe
             pub route-broken : r ≡ false → [] ≡ checkedRoute n links F sources receiver s
             route-broken x = none h (route-is ∙ simp (lt-ltb _ _ a, sym e ∙ f, sym g ∙ t, sym v ∙ x))
 
-            pub route-sound : r ≡ true → take end s ≡ checkedRoute n links F sources receiver s
+            -- what is handed back is the part from 0 to the end
+            pub route-sound : r ≡ true → take (end - 0) s ≡ checkedRoute n links F sources receiver s
             unfolding checkedRoute
             route-sound x =
                 let y : isRoute n links F sources receiver (take 8 s) ≡ true = route-is ∙ simp (lt-ltb _ _ a, sym e ∙ f, sym g ∙ t, sym v ∙ x) in
-                sym (simp (le-leb 8 (length s) h, y) path-is)
+                let z : end - 0 ≡ end = omega arith in
+                rw z (sym (simp (le-leb 8 (length s) h, y) path-is))
+
+-- a source is one of eight servers
+pub source-low : (sources i : ℕ) → sources < 2 ^ 8 → (b : Bool) → b ≡ has sources i → b ≡ true → i < 8
+source-low sources i h b e t = has-below 8 sources i h (sym e ∙ t)
 
 -- a route that keeps the rules is handed back with its servers, at least two
 pub route-not-empty : (n : ℕ) (links : Links) (F sources receiver : ℕ) (s : List ℕ) → 8 ≤ length s → isRoute n links F sources receiver (take 8 s) ≡ true

@@ -2,6 +2,7 @@
 --     block-runs      the six steps' results make up the block's
 --     block-numbers   how many carriages the block has
 --     Along           how far the blocks are run; blocks-start, blocks-end, and blocks-turn for one block more
+--     block-ready     the next block is ready to run; block-room: it ends inside the plan
 -- Assumes nothing.
 use mathlib.Core.Path.{_≡_, refl, sym, ap, _∙_}
 use mathlib.Core.List.{List, [], _∷_, _++_, map, List·Memᴰ·head, List·Memᴰ·tail}
@@ -20,7 +21,7 @@ use Rattle.steps.specs.Steps.{Values, step1, gather, compare, step5, step6, run
 use Rattle.run.specs.Speaking.{bitsOf, worksOf}
 use Rattle.run.specs.Openings.{ReportOf, Readable, Runnable, Opens, Ready, blockAt}
 use Rattle.run.specs.declared.block.Opening.{Opening}
-use Rattle.run.proofs.Placed.{inward-long, among-long, outward-long, reports-are, block-bytes}
+use Rattle.run.proofs.Placed.{inward-long, among-long, outward-long, reports-are, reports-few, block-bytes}
 
 -- F, A and S of the decoded block
 module _ (o : Opening) (s : List ℕ) (h : Opens (o .n) (o .f) s o) where
@@ -116,6 +117,13 @@ pub record Along (n f X : ℕ) (table plan : List ℕ) (blocks : ℕ) (start : V
   pub runs : Runnable n f (drop at plan) (blocks - k)
   pub same : runBlocks n X table number (decodeBlocks n f (drop at plan) (blocks - k)) (record { v = v; t = t }) ≡ runBlocks n X table 0 (decodeBlocks n f plan blocks) start
 
+-- the block at this place ends inside the plan, and the numbers of its carriages stay below the bytes
+pub record Room (plan : List ℕ) (at number : ℕ) (o : Opening) : Type 0 where
+  pub bytes : at + (4 + 9 * (o .inward + o .among + o .outward) + 3 * o .reports) ≤ length plan
+  pub numbers : number + (o .inward + o .among + o .outward + o .reports * (o .f + 1)) ≤ at + (4 + 9 * (o .inward + o .among + o .outward) + 3 * o .reports)
+  pub reports : o .reports ≤ 8
+  pub bound : o .f ≤ 2
+
 pub blocks-start : (n f X : ℕ) (table plan : List ℕ) (blocks : ℕ) (v t : List ℕ) → Runnable n f plan blocks
     → Along n f X table plan blocks (record { v = v; t = t }) 0 0 0 v t
 blocks-start n f X table plan blocks v t h =
@@ -160,7 +168,7 @@ module _ (n f X : ℕ) (table plan : List ℕ) (blocks : ℕ) (start : Values) (
     block-is : blockAt o part ≡ decodeBlock n f (drop at plan)
     block-is = rw (opens .servers, opens .bound, part-rest plan at) refl
 
-    pub bytes-fit : at + (4 + 9 * (o .inward + o .among + o .outward) + 3 * o .reports) ≤ length plan
+    bytes-fit : at + (4 + 9 * (o .inward + o .among + o .outward) + 3 * o .reports) ≤ length plan
     bytes-fit =
         let a = block-bytes o part block-ready in
         let b = block-ready .readable .fits in
@@ -169,8 +177,11 @@ module _ (n f X : ℕ) (table plan : List ℕ) (blocks : ℕ) (start : Values) (
         let e = along .inside in
         omega arith
 
-    pub numbers-behind : number + (o .inward + o .among + o .outward + o .reports * (o .f + 1)) ≤ at + (4 + 9 * (o .inward + o .among + o .outward) + 3 * o .reports)
+    numbers-behind : number + (o .inward + o .among + o .outward + o .reports * (o .f + 1)) ≤ at + (4 + 9 * (o .inward + o .among + o .outward) + 3 * o .reports)
     numbers-behind = let a = thrice (o .reports) (o .f) (block-ready .bound) in let b = along .behind in omega arith
+
+    pub block-room : Room plan at number o
+    block-room = record { bytes = bytes-fit; numbers = numbers-behind; reports = reports-few o part block-ready; bound = block-ready .bound }
 
     pub blocks-turn : (v′ t′ : List ℕ) → _≡_ {A = Values} (record { v = v′; t = t′ }) (runBlock (o .n) X table number (blockAt o part) (record { v = v; t = t }))
         → (bytes carriages : ℕ) → bytes ≡ 4 + 9 * (o .inward + o .among + o .outward) + 3 * o .reports

@@ -2,6 +2,7 @@
 --     message-..    the byte of the message table
 --     place-..      the first two servers of a route are there
 --     hit-..        the servers before the receiver
+--     passing-..    the walk to the receiver
 --     brought-..    what the route's carriage brings
 --     arrivals-..   the loop over the routes
 --     route-..      the next route
@@ -20,7 +21,7 @@ use Rattle.facts.proofs.Bools.{cases}
 use Rattle.sets.specs.Sets.{has}
 use Rattle.route.specs.Route.{path}
 use Rattle.plan.specs.Check.{routeAt}
-use Rattle.route.proofs.Paths.{path-part}
+use Rattle.route.proofs.Paths.{path-part, path-stops, path-passes, path-ends}
 use Rattle.plan.proofs.Groups.{part-rest}
 use Rattle.rules.specs.Blocks.{Carriage, carriageOf, routesAt}
 use Rattle.facts.specs.Lists.{Each}
@@ -51,7 +52,7 @@ module _ (table : List ℕ) (k : ℕ) where
   message-none h = let e = List·getD-eq-default table 2 h in sym (rw e refl)
 
 -- the place of the receiver: the first two servers are there, so the loop starts after them
-pub place-starts : (l : List ℕ) → 2 ≤ length (path l) → 2 + length (path (drop 2 l)) ≡ length (path l)
+place-starts : (l : List ℕ) → 2 ≤ length (path l) → 2 + length (path (drop 2 l)) ≡ length (path l)
 unfolding path
 place-starts [] h = absurd (omega arith)
 place-starts (b ∷ []) h =
@@ -64,7 +65,7 @@ place-starts (a ∷ b ∷ l) h =
     λ g. let z : length (path (a ∷ b ∷ l)) ≡ suc (suc (length (path l))) = simp (e, g) in omega arith
 
 -- some server before a place is faulty: one server more
-pub hit-more : (X : ℕ) (s : List ℕ) (k : ℕ) → k < length s → (hit X (take k s) || has X (getD s k 0)) ≡ hit X (take (k + 1) s)
+hit-more : (X : ℕ) (s : List ℕ) (k : ℕ) → k < length s → (hit X (take k s) || has X (getD s k 0)) ≡ hit X (take (k + 1) s)
 unfolding hit
 hit-more X [] k h = absurd (omega arith)
 hit-more X (x ∷ xs) zero h = cases (has X x) (λ e. rw e refl) (λ e. rw e refl)
@@ -74,9 +75,41 @@ hit-more X (x ∷ xs) (suc k) h =
     let b = add-one k in
     cases (has X x) (λ e. rw (a, e) refl) (λ e. rw (a, e) (rw b at ih))
 
-pub hit-first : (X : ℕ) (s : List ℕ) → 0 < length s → has X (getD s 0 0) ≡ hit X (take 1 s)
+hit-first : (X : ℕ) (s : List ℕ) → 0 < length s → has X (getD s 0 0) ≡ hit X (take 1 s)
 unfolding hit
 hit-first X s h = hit-more X s 0 h
+
+-- the walk to the receiver: k servers are passed, one more and those still to come make up the path, and h says whether one of those passed is faulty
+pub record Passing (X : ℕ) (s : List ℕ) (h : Bool) (k : ℕ) : Type 0 where
+  pub begun : 1 ≤ k
+  pub most : k ≤ 7
+  pub ahead : (k + 1) + length (path (drop (k + 1) (take 8 s))) ≡ length (path (take 8 s))
+  pub mark : h ≡ hit X (take k s)
+
+module _ (X : ℕ) (s : List ℕ) (wide : 8 ≤ length s) where
+  pub passing-starts : 2 ≤ length (path (take 8 s)) → (h : Bool) → h ≡ has X (getD s 0 0) → Passing X s h 1
+  passing-starts two h e = record { begun = omega arith; most = omega arith; ahead = place-starts (take 8 s) two; mark = e ∙ hit-first X s (omega arith) }
+
+  module _ (h : Bool) (k : ℕ) (p : Passing X s h k) where
+    -- no fill comes: the receiver is the eighth server
+    module _ (l : 7 ≤ k) where
+      pub passing-ends : 8 ≡ length (path (take 8 s))
+      passing-ends = path-ends s wide (k + 1) (omega arith) (omega arith) (p .ahead)
+
+      pub passing-mark : h ≡ hit X (take 7 s)
+      passing-mark = let z : k ≡ 7 = omega arith in rw z at (p .mark)
+
+    module _ (l : k < 7) where
+      pub passing-stops : getD s (k + 1) 0 ≡ 255 → k + 1 ≡ length (path (take 8 s))
+      passing-stops e = path-stops s wide (k + 1) (omega arith) (p .ahead) e
+
+      pub passing-goes : (getD s (k + 1) 0 ≡ 255 → ⊥) → (b : Bool) → b ≡ has X (getD s k 0) → Passing X s (h || b) (k + 1)
+      passing-goes o b e = record {
+        begun = omega arith;
+        most = omega arith;
+        ahead = path-passes s wide (k + 1) (omega arith) (p .ahead) o;
+        mark = rw (p .mark, e) (hit-more X s k (omega arith));
+      }
 
 -- the servers of the route: its path is the part of the operand before the fill
 module _ (s : List ℕ) (end : ℕ) (w : end + 1 ≡ length (path (take 8 s))) (few : end ≤ 7) where

@@ -1,6 +1,6 @@
 -- What the opening command of a block fixes, as the code computes it.
 --     table-size                       what the table of sizes has
---     product-few                      a product of two small numbers is small
+--     product-few                      a product of two small numbers is small; each-fits, square-fits: so are the code's
 --     square-more                      a number is at most its square
 --     inward-so, among-so, outward-so  the counts of routes are those that are due
 -- Assumes nothing.
@@ -22,6 +22,13 @@ table-size sizes t s h = let e = t .entry s h in let b = size-le s in (e, omega 
 pub product-few : (a b : ℕ) → a < 256 → b ≤ 256 → a * b < 65536
 product-few a b h l = let k : a ≤ 255 = omega arith in let m = mul-le-mul k l in omega arith
 
+-- a size times f + 1, and the square of a size, fit
+pub each-fits : (s f : ℕ) → s ≤ 8 → f < 256 → s * (f + 1) < 18446744073709551616
+each-fits s f h l = let z = product-few s (f + 1) (omega arith) (omega arith) in omega arith
+
+pub square-fits : (s : ℕ) → s ≤ 8 → s * s < 18446744073709551616
+square-fits s h = let z = product-few s s (omega arith) (omega arith) in omega arith
+
 -- the routes among s servers are a square without its diagonal
 
 pub square-more : (s : ℕ) → s ≤ s * s
@@ -35,11 +42,11 @@ pub among-so : (S q : ℕ) → q ≡ size S → q * q - q ≡ amongDue S
 unfolding amongDue
 among-so S q e = rw e (square-less (size S))
 
-pub inward-so : (f A S into x : ℕ) → into ≡ minus S A → x ≡ size into → x * (f + 1) ≡ inwardDue f A S
+pub inward-so : (f A S into x : ℕ) → x ≡ size into → into ≡ minus S A → x * (f + 1) ≡ inwardDue f A S
 unfolding inwardDue
-inward-so f A S into x e q = rw (q, e) refl
+inward-so f A S into x q e = rw (q, e) refl
 
-pub outward-so : (n f F S : ℕ) → n ≤ 8 → (servers sound out x : ℕ) → servers ≡ full (min n 8) → sound ≡ minus servers F → out ≡ minus sound S → x ≡ size out
+pub outward-so : (n f F S : ℕ) → n ≤ 8 → (servers sound out x : ℕ) → x ≡ size out → out ≡ minus sound S → sound ≡ minus servers F → servers ≡ full (min n 8)
     → x * (f + 1) ≡ outwardDue n f F S
 unfolding outwardDue
-outward-so n f F S few servers sound out x v e o q = let w = full-few n servers few v .0 in rw (q, o, e, w) refl
+outward-so n f F S few servers sound out x q o e v = let w = full-few n servers few v .0 in rw (q, o, e, w) refl

@@ -58,14 +58,14 @@ pub put-none : (at : ℕ) (x : List ℕ) → Put at [] 0 x x at
 unfolding laid
 put-none at x = record { bytes = refl; place = sym (add-zero at); bound = omega arith }
 
-module _ (at b : ℕ) (x : List ℕ) where
-  pub put-stored : Put at (b ∷ []) 1 x (set x at b) (at + 1)
+module _ (at b : ℕ) (x y : List ℕ) where
+  pub put-stored : y ≡ set x at b → Put at (b ∷ []) 1 x y (at + 1)
   unfolding laid
-  put-stored = record { bytes = refl; place = refl; bound = omega arith }
+  put-stored e = record { bytes = e; place = refl; bound = omega arith }
 
-  pub put-past : length x ≤ at → Put at (b ∷ []) 1 x x (at + 1)
+  pub put-past : length x ≤ at → y ≡ x → Put at (b ∷ []) 1 x y (at + 1)
   unfolding laid
-  put-past h = record { bytes = sym (set-out x at b h); place = refl; bound = omega arith }
+  put-past h e = record { bytes = e ∙ sym (set-out x at b h); place = refl; bound = omega arith }
 
 pub put-join : {at : ℕ} {a b : List ℕ} {m k : ℕ} {x y z : List ℕ} {r q : ℕ} → Put at a m x y r → Put r b k y z q → Put at (a ++ b) (m + k) x z q
 put-join {at} {a} {b} {m} {k} {x} {y} {z} {r} {q} p s =

@@ -1,10 +1,7 @@
--- `route::check_route` meets its contract. Each answer is one way a route keeps or breaks the rules (`Paths`, route-..). Assumes nothing.
-use mathlib.Core.Path.{_≡_, sym, _∙_}
-use Prim.Native.Nat.{_-_}
-use native.Mathlib.Omega.{arith}
+-- `route::check_route` meets its contract. Each answer is one way a route keeps or breaks the rules, a lemma of `Paths` (route-..) whose premises,
+-- the tests on the way to that return, `search` finds. Assumes nothing.
 use borrow.Author.Needs.{needs}
-use Rattle.sets.proofs.Members.{has-below}
-use Rattle.route.proofs.Paths.{route-short, route-few, route-unfilled, route-past, route-faulty, route-astray, route-broken, route-sound}
+use Rattle.route.proofs.Paths.{route-short, route-few, route-unfilled, route-past, route-faulty, route-astray, route-broken, route-sound, source-low}
 use Rattle.route.proofs.check_route.Statement.{statement}
 use Rattle.route.proofs.check_route.Tie as tie
 use Rattle.route.proofs.check_route.Reads as reads
@@ -23,8 +20,9 @@ part-result-start c = search needs
 part-result-end : tie.Need-part-result-end
 part-result-end c = search needs
 
+-- the operand has fewer than eight bytes
 returns : tie.Need-returns
-returns c = route-short (c .before .before .before .args .n) (c .before .before .before .args .links) (c .before .before .before .args .fault) (c .before .before .before .args .sources) (c .before .before .before .args .receiver) (c .before .before .before .args .operand .now) (omega arith)
+returns c = search route-short
 
 path-length-requires : tie.Need-path-length-requires
 path-length-requires c κs = search needs
@@ -38,8 +36,9 @@ part-result-start-2 c = search needs
 part-result-end-2 : tie.Need-part-result-end-2
 part-result-end-2 c = search needs
 
+-- fewer than two servers stand before the fill
 returns-2 : tie.Need-returns-2
-returns-2 c = route-few (c .before .before .before .before .before .args .n) (c .before .before .before .before .before .args .links) (c .before .before .before .before .before .args .fault) (c .before .before .before .before .before .args .sources) (c .before .before .before .before .before .args .receiver) (c .before .before .before .before .before .args .operand .now) (omega arith) _ (c .before .before .path-length .ensures .0) (c .before .if2 .taken)
+returns-2 c = search route-few
 
 is-filled-requires : tie.Need-is-filled-requires
 is-filled-requires c κs = search needs
@@ -56,8 +55,9 @@ part-result-start-3 c = search needs
 part-result-end-3 : tie.Need-part-result-end-3
 part-result-end-3 c = search needs
 
+-- the source is none of V
 returns-3 : tie.Need-returns-3
-returns-3 c = route-past (c .before .before .before .before .before .before .before .before .before .args .n) (c .before .before .before .before .before .before .before .before .before .args .links) (c .before .before .before .before .before .before .before .before .before .args .fault) (c .before .before .before .before .before .before .before .before .before .args .sources) (c .before .before .before .before .before .before .before .before .before .args .receiver) (c .before .before .before .before .before .before .before .before .before .args .operand .now) (omega arith) _ (c .before .before .before .before .before .before .path-length .ensures .0) (c .before .before .before .before .before .if2 .left) (c .before .before .before .before .before .before .path-length .ensures .1) _ (c .before .before .before .before .is-filled .ensures) (c .before .before .before .if3 .taken) (c .before .if4 .taken)
+returns-3 c = search route-past
 
 member-requires : tie.Need-member-requires
 member-requires c κs = search needs
@@ -71,14 +71,16 @@ part-result-start-4 c = search needs
 part-result-end-4 : tie.Need-part-result-end-4
 part-result-end-4 c = search needs
 
+-- the source is in F
 returns-4 : tie.Need-returns-4
-returns-4 c = route-faulty (c .before .before .before .before .before .before .before .before .before .before .before .args .n) (c .before .before .before .before .before .before .before .before .before .before .before .args .links) (c .before .before .before .before .before .before .before .before .before .before .before .args .fault) (c .before .before .before .before .before .before .before .before .before .before .before .args .sources) (c .before .before .before .before .before .before .before .before .before .before .before .args .receiver) (c .before .before .before .before .before .before .before .before .before .before .before .args .operand .now) (omega arith) _ (c .before .before .before .before .before .before .before .before .path-length .ensures .0) (c .before .before .before .before .before .before .before .if2 .left) (c .before .before .before .before .before .before .before .before .path-length .ensures .1) _ (c .before .before .before .before .before .before .is-filled .ensures) (c .before .before .before .before .before .if3 .taken) (c .before .before .before .if4 .left) _ (c .before .before .member .ensures) (c .before .if5 .taken)
+returns-4 c = search route-faulty
 
 member-requires-2 : tie.Need-member-requires-2
 member-requires-2 c κs = search needs
 
+-- there is a first server, the path is inside the operand, and its source is one of eight
 goes-on-requires : tie.Need-goes-on-requires
-goes-on-requires c κs = (omega arith, omega arith, has-below 8 _ _ (search needs) (sym (c .before .member2 .ensures) ∙ c .if6 .taken))
+goes-on-requires c κs = search (needs, source-low)
 
 sub-result-5 : tie.Need-sub-result-5
 sub-result-5 c = search needs
@@ -89,9 +91,9 @@ part-result-start-5 c = search needs
 part-result-end-5 : tie.Need-part-result-end-5
 part-result-end-5 c = search needs
 
+-- a route
 returns-5 : tie.Need-returns-5
-returns-5 c = let e : c .before .before .before .before .before .before .before .before .before .before .before .before .path-length .result - 0 ≡ c .before .before .before .before .before .before .before .before .before .before .before .before .path-length .result = omega arith in
-    rw e (route-sound (c .before .before .before .before .before .before .before .before .before .before .before .before .before .before .before .args .n) (c .before .before .before .before .before .before .before .before .before .before .before .before .before .before .before .args .links) (c .before .before .before .before .before .before .before .before .before .before .before .before .before .before .before .args .fault) (c .before .before .before .before .before .before .before .before .before .before .before .before .before .before .before .args .sources) (c .before .before .before .before .before .before .before .before .before .before .before .before .before .before .before .args .receiver) (c .before .before .before .before .before .before .before .before .before .before .before .before .before .before .before .args .operand .now) (omega arith) _ (c .before .before .before .before .before .before .before .before .before .before .before .before .path-length .ensures .0) (c .before .before .before .before .before .before .before .before .before .before .before .if2 .left) (c .before .before .before .before .before .before .before .before .before .before .before .before .path-length .ensures .1) _ (c .before .before .before .before .before .before .before .before .before .before .is-filled .ensures) (c .before .before .before .before .before .before .before .before .before .if3 .taken) (c .before .before .before .before .before .before .before .if4 .left) _ (c .before .before .before .before .before .before .member .ensures) (c .before .before .before .before .before .if5 .left) _ (c .before .before .before .before .member2 .ensures) (c .before .before .before .if6 .taken) _ (c .before .before .goes-on .ensures) (c .before .if7 .taken))
+returns-5 c = search route-sound
 
 sub-result-6 : tie.Need-sub-result-6
 sub-result-6 c = search needs
@@ -102,8 +104,9 @@ part-result-start-6 c = search needs
 part-result-end-6 : tie.Need-part-result-end-6
 part-result-end-6 c = search needs
 
+-- some server on the way breaks a rule
 returns-6 : tie.Need-returns-6
-returns-6 c = route-broken (c .before .before .before .before .before .before .before .before .before .before .before .before .before .before .before .args .n) (c .before .before .before .before .before .before .before .before .before .before .before .before .before .before .before .args .links) (c .before .before .before .before .before .before .before .before .before .before .before .before .before .before .before .args .fault) (c .before .before .before .before .before .before .before .before .before .before .before .before .before .before .before .args .sources) (c .before .before .before .before .before .before .before .before .before .before .before .before .before .before .before .args .receiver) (c .before .before .before .before .before .before .before .before .before .before .before .before .before .before .before .args .operand .now) (omega arith) _ (c .before .before .before .before .before .before .before .before .before .before .before .before .path-length .ensures .0) (c .before .before .before .before .before .before .before .before .before .before .before .if2 .left) (c .before .before .before .before .before .before .before .before .before .before .before .before .path-length .ensures .1) _ (c .before .before .before .before .before .before .before .before .before .before .is-filled .ensures) (c .before .before .before .before .before .before .before .before .before .if3 .taken) (c .before .before .before .before .before .before .before .if4 .left) _ (c .before .before .before .before .before .before .member .ensures) (c .before .before .before .before .before .if5 .left) _ (c .before .before .before .before .member2 .ensures) (c .before .before .before .if6 .taken) _ (c .before .before .goes-on .ensures) (c .before .if7 .left)
+returns-6 c = search route-broken
 
 sub-result-7 : tie.Need-sub-result-7
 sub-result-7 c = search needs
@@ -114,8 +117,9 @@ part-result-start-7 c = search needs
 part-result-end-7 : tie.Need-part-result-end-7
 part-result-end-7 c = search needs
 
+-- the first server is no source
 returns-7 : tie.Need-returns-7
-returns-7 c = route-astray (c .before .before .before .before .before .before .before .before .before .before .before .before .before .args .n) (c .before .before .before .before .before .before .before .before .before .before .before .before .before .args .links) (c .before .before .before .before .before .before .before .before .before .before .before .before .before .args .fault) (c .before .before .before .before .before .before .before .before .before .before .before .before .before .args .sources) (c .before .before .before .before .before .before .before .before .before .before .before .before .before .args .receiver) (c .before .before .before .before .before .before .before .before .before .before .before .before .before .args .operand .now) (omega arith) _ (c .before .before .before .before .before .before .before .before .before .before .path-length .ensures .0) (c .before .before .before .before .before .before .before .before .before .if2 .left) (c .before .before .before .before .before .before .before .before .before .before .path-length .ensures .1) _ (c .before .before .before .before .before .before .before .before .is-filled .ensures) (c .before .before .before .before .before .before .before .if3 .taken) (c .before .before .before .before .before .if4 .left) _ (c .before .before .before .before .member .ensures) (c .before .before .before .if5 .left) _ (c .before .before .member2 .ensures) (c .before .if6 .left)
+returns-7 c = search route-astray
 
 sub-result-8 : tie.Need-sub-result-8
 sub-result-8 c = search needs
@@ -126,8 +130,9 @@ part-result-start-8 c = search needs
 part-result-end-8 : tie.Need-part-result-end-8
 part-result-end-8 c = search needs
 
+-- something else than fill follows the servers
 returns-8 : tie.Need-returns-8
-returns-8 c = route-unfilled (c .before .before .before .before .before .before .before .args .n) (c .before .before .before .before .before .before .before .args .links) (c .before .before .before .before .before .before .before .args .fault) (c .before .before .before .before .before .before .before .args .sources) (c .before .before .before .before .before .before .before .args .receiver) (c .before .before .before .before .before .before .before .args .operand .now) (omega arith) _ (c .before .before .before .before .path-length .ensures .0) _ (c .before .before .is-filled .ensures) (c .before .if3 .left)
+returns-8 c = search route-unfilled
 
 pub check-route-spec : {M : Type 1} → statement M
 check-route-spec =

@@ -1,16 +1,9 @@
--- `route::goes_on` meets its contract. The invariant of its loop: the walk from here on gives the answer of the whole walk. The measure is what
--- is left of the path. Assumes nothing.
-use mathlib.Core.Path.{_≡_, refl, ap, _∙_}
-use Prim.Native.Nat.{ℕ, _-_, _≤_, _<_}
-use native.Mathlib.Omega.{arith}
+-- `route::goes_on` meets its contract. The invariant of its loop, `Walking`: the walk from here on gives the answer of the whole walk. The measure is
+-- what is left of the path. A turn is one lemma of `Paths` (walk-..), whose premises `search` finds. Assumes nothing.
+use Prim.Native.Nat.{_-_}
 use borrow.Author.Needs.{needs}
-use lib.ListN.{getD, take, drop}
 use Rattle.facts.proofs.Rows.{row-long}
-use Rattle.sets.specs.Sets.{union, single}
-use Rattle.network.specs.Links.{linkedIn}
-use Rattle.network.proofs.Marks.{linked-past-row}
-use Rattle.route.specs.Route.{goesOn}
-use Rattle.route.proofs.Paths.{walk-past, walk-far, walk-busy, walk-unlinked, walk-on, walk-ends}
+use Rattle.route.proofs.Paths.{Walking, walk-starts, walk-past, walk-far, walk-busy, walk-unlinked, walk-on, walk-ends}
 use Rattle.route.proofs.goes_on.Statement.{statement}
 use Rattle.route.proofs.goes_on.Tie as tie
 use Rattle.route.proofs.goes_on.Reads as reads
@@ -21,8 +14,7 @@ use Rattle.sets.proofs.union.Reads as union-reads
 
 abbrev Inv-loop : tie.InvT-loop
 Inv-loop n fault receiver operand end links last₀ busy₀ i₀ last busy i =
-    (i ≤ end) × (1 ≤ i) × (last < 8)
-    × (goesOn n links busy last receiver (drop i (take end operand)) ≡ goesOn n links (union fault (single (getD operand 0 0))) (getD operand 0 0) receiver (drop 1 (take end operand)))
+    Walking n links fault receiver operand end busy last i
 
 abbrev μ-loop : tie.MeasureT-loop
 μ-loop n fault receiver operand end links last₀ busy₀ i₀ last busy i =
@@ -38,27 +30,25 @@ union-requires : tie.Need-union-requires Inv-loop μ-loop
 union-requires c κs = search needs
 
 loop-holds : tie.Need-loop-holds Inv-loop μ-loop
-loop-holds c = let a = c .before .before .before .before .args in
-    let e : c .union .result ≡ union (a .fault) (single (getD (a .operand .now) 0 0)) = c .union .ensures ∙ ap (union (a .fault)) (c .before .single .ensures) in
-    (c .before .before .before .before .pre .0, omega arith, c .before .before .before .before .pre .2, ap (λ (x : ℕ). goesOn (a .n) (a .t2) x (getD (a .operand .now) 0 0) (a .receiver) (drop 1 (take (a .end) (a .operand .now)))) e)
+loop-holds c = search walk-starts
 
 shared-slice-read-server : tie.Need-shared-slice-read-server Inv-loop μ-loop
 shared-slice-read-server c = search needs
 
+-- the next server is none of V
 returns : tie.Need-returns Inv-loop μ-loop
-returns c = walk-past _ _ _ _ _ _ _ (c .before .before .before .before .before .before .before .before .pre .1) _ (c .before .before .loop-test .taken) (c .if1 .taken) ∙ c .before .before .before .loop .inv .3
+returns c = search walk-past
 
+-- it is past the eighth, and no row has a link to it
 returns-2 : tie.Need-returns-2 Inv-loop μ-loop
-returns-2 c = let a = c .before .before .before .before .before .before .before .before .before .args in
-    let l = c .before .before .before .before .loop in
-    let g = c .before .before .before .before .before .before .before .before .before .good .1 .0 in
-    walk-far _ _ _ _ _ _ _ (c .before .before .before .before .before .before .before .before .before .pre .1) _ (c .before .before .before .loop-test .taken) (linked-past-row _ _ _ (row-long _ _ 8 (a .t2) (g .0) (l .last) (g .1 .1) (omega arith)) (c .if2 .taken)) ∙ l .inv .3
+returns-2 c = search (needs, walk-far, row-long)
 
 member-requires : tie.Need-member-requires Inv-loop μ-loop
 member-requires c κs = search needs
 
+-- it is in F, or the path has been there
 returns-3 : tie.Need-returns-3 Inv-loop μ-loop
-returns-3 c = walk-busy _ _ _ _ _ _ _ (c .before .before .before .before .before .before .before .before .before .before .before .pre .1) _ (c .before .before .before .before .before .loop-test .taken) (c .before .before .before .if1 .left) _ (c .before .member .ensures) (c .if3 .taken) ∙ c .before .before .before .before .before .before .loop .inv .3
+returns-3 c = search walk-busy
 
 cast-row : tie.Need-cast-row Inv-loop μ-loop
 cast-row c = search needs
@@ -81,9 +71,9 @@ single-requires-2 c κs = search needs
 union-requires-2 : tie.Need-union-requires-2 Inv-loop μ-loop
 union-requires-2 c κs = search needs
 
+-- no link leads to it
 returns-4 : tie.Need-returns-4 Inv-loop μ-loop
-unfolding linkedIn
-returns-4 c = walk-unlinked _ _ _ _ _ _ _ (c .before .before .before .before .before .before .before .before .before .before .before .before .before .pre .1) _ (c .before .before .before .before .before .before .before .loop-test .taken) (c .before .before .before .before .before .if1 .left) _ (c .before .before .before .member .ensures) (c .before .before .if3 .left) _ refl (c .if4 .left) ∙ c .before .before .before .before .before .before .before .before .loop .inv .3
+returns-4 c = search walk-unlinked
 
 add-i : tie.Need-add-i Inv-loop μ-loop
 add-i c = search needs
@@ -91,12 +81,13 @@ add-i c = search needs
 loop-less : tie.Need-loop-less Inv-loop μ-loop
 loop-less c = search needs
 
+-- it is passed
 loop-again : tie.Need-loop-again Inv-loop μ-loop
-unfolding linkedIn
-loop-again c = (omega arith, omega arith, omega arith, walk-on _ _ _ _ _ _ _ (c .before .before .before .before .before .before .before .before .before .before .before .before .before .before .before .pre .1) _ (c .before .before .before .before .before .before .before .before .before .loop-test .taken) (c .before .before .before .before .before .before .before .if1 .left) _ (c .before .before .before .before .before .member .ensures) (c .before .before .before .before .if3 .left) _ refl (c .before .before .if4 .taken) _ _ (c .before .single2 .ensures) (c .union2 .ensures) ∙ c .before .before .before .before .before .before .before .before .before .before .loop .inv .3)
+loop-again c = search walk-on
 
+-- the path is over
 returns-5 : tie.Need-returns-5 Inv-loop μ-loop
-returns-5 c = walk-ends _ _ _ _ _ _ _ (c .before .before .before .before .before .before .pre .1) _ (c .loop-test .left) ∙ c .before .loop .inv .3
+returns-5 c = search walk-ends
 
 pub goes-on-spec : {M : Type 1} → statement M
 goes-on-spec =

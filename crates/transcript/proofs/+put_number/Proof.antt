@@ -1,8 +1,8 @@
--- `transcript::put_number` meets its contract. The measure is n: the call of itself puts the digits of the tenth. Assumes nothing.
+-- `transcript::put_number` meets its contract. The measure is n: the call of itself puts the digits of the tenth. That the last digit then makes
+-- the number is `number`. Assumes nothing.
 use mathlib.Core.Logic.{⊎-elim}
 use mathlib.Core.List.{[], _∷_}
 use Prim.Native.Nat.{ℕ, _+_, _%_, _<_}
-use native.Mathlib.Omega.{arith}
 use Rattle.transcript.specs.Text.{decimal, Put}
 use Rattle.transcript.proofs.Laying.{put-stored, put-past, put-long, number-less, number-more}
 use borrow.Author.Needs.{needs}
@@ -26,20 +26,20 @@ abbrev put-number-below : ℕ → In 1 put-number-kinds.ps
 put-number-below t =
     and 1 put-number-kinds.ps (falls 1 put-number-kinds.ps _<_ μ-put-number t) put-number.Pre
 
--- the last digit, and with it the number
-module _ (t : ℕ) (c : put-number-lts.After-row-known (put-number-below t, put-number.Post) (put-number-at t) put-number.Post) where
-  digit : Put (c .before .before .if1 .place) ((48 + c .before .before .before .before .args .n % 10) ∷ []) 1 (c .before .before .if1 .out) (c .before .if2 .out) (c .before .before .if1 .place + 1)
-  digit = ⊎-elim (λ w. rw (w .1) (put-stored _ _ _)) (λ w. rw (w .1) (put-past _ _ _ (w .0 .left))) (c .before .if2 .came)
-
-  number : Put (c .before .before .before .before .args .at) (decimal (c .before .before .before .before .args .n)) 20 (c .before .before .before .before .args .out .now) (c .before .if2 .out) (c .before .before .if1 .place + 1)
-  number =
-      ⊎-elim (λ w. number-more digit (w .0 .taken) (omega arith) (w .2 .ensures) (w .5) (w .6)) (λ w. number-less digit (w .0 .left) (w .1) (w .2)) (c .before .before .if1 .came)
+-- after both tests the last digit is put behind the digits of the tenth, and so the number is put
+number : (t : ℕ) (c : put-number-lts.Joined2 (put-number-below t, put-number.Post) (put-number-at t) put-number.Post) →
+    let a = c .before .before .before .args in
+    Put (a .at) (decimal (a .n)) 20 (a .out .now) (c .if2 .out) (c .before .if1 .place + 1)
+number t c =
+    let tenth = c .before .if1 in
+    let digit : Put (tenth .place) ((48 + c .before .before .before .args .n % 10) ∷ []) 1 (tenth .out) (c .if2 .out) (tenth .place + 1) = ⊎-elim (λ w. search put-stored) (λ w. search put-past) (c .if2 .came) in
+    ⊎-elim (λ w. search (needs, number-more)) (λ w. search number-less) (tenth .came)
 
 put-number-put-number-requires : (t : ℕ) → put-number-lts.Need-put-number-requires (
   put-number-below t,
   put-number.Post,
 ) (put-number-at t) put-number.Post
-put-number-put-number-requires t c κs = (rw (← c .before .before .before .pre .0) (omega arith), search needs)
+put-number-put-number-requires t c κs = search needs
 
 put-number-cast-out :
     (t : ℕ) →
@@ -67,13 +67,13 @@ put-number-add-result : (t : ℕ) → put-number-lts.Need-add-result (
   put-number-below t,
   put-number.Post,
 ) (put-number-at t) put-number.Post
-put-number-add-result t c = let p = number t c in record { fits = omega arith }
+put-number-add-result t c = search (needs, number t (c .before))
 
 put-number-same-length : (t : ℕ) → put-number-lts.Need-same-length (
   put-number-below t,
   put-number.Post,
 ) (put-number-at t) put-number.Post
-put-number-same-length t c = put-long (number t c)
+put-number-same-length t c = put-long (number t (c .before))
 
 put-number-returns :
     (t : ℕ) →
@@ -81,7 +81,7 @@ put-number-returns :
     (put-number-below t, put-number.Post)
     (put-number-at t)
     put-number.Post
-put-number-returns t c = number t c
+put-number-returns t c = number t (c .before)
 
 pub +put-number-spec : {M : Type 1} → statement M
 +put-number-spec = close μ-put-number λ t. put-number-lts.spec (

@@ -35,8 +35,7 @@ loop-less : tie.Need-loop-less Inv-loop μ-loop
 loop-less c = search needs
 
 loop-again : tie.Need-loop-again Inv-loop μ-loop
-loop-again c = let l = c .before .before .loop in
-    laying-goes (l .inv) (c .before .loop-test .taken) (⊎-elim (λ w. rw (w .2) (put-stored _ _ _)) (λ w. rw (w .1) (put-past _ _ _ (w .0 .left))) (c .if1 .came))
+loop-again c = ⊎-elim (λ w. search (laying-goes, put-stored)) (λ w. search (laying-goes, put-past)) (c .if1 .came)
 
 same-length : tie.Need-same-length Inv-loop μ-loop
 same-length c = put-long (c .before .loop .inv .before)

@@ -1,4 +1,5 @@
--- `transcript::put_server` meets its contract. The five words are joined. Assumes nothing.
+-- `transcript::put_server` meets its contract. The five words are joined: the line is one lemma of `Lines`, and `search` finds the words that it
+-- asks for. Assumes nothing.
 use Rattle.transcript.specs.Text.{serverWord, decidedWord, newline}
 use Rattle.transcript.proofs.Lines.{server-put}
 use borrow.Author.Needs.{needs}
@@ -46,14 +47,7 @@ same-length c = search needs
 
 returns : tie.Need-returns
 unfolding serverWord decidedWord newline
-returns c =
-    let fifth = c .before .before in
-    let fourth = fifth .before .before .before .before .before in
-    let member = fourth .before in
-    let third = member .before .before .before .before in
-    let second = third .before .before .before .before .before in
-    let first = second .before .before .before .before in
-    server-put _ _ _ (member .member .ensures) (first .put .ensures) (second .put-number .ensures) (third .put2 .ensures) (fourth .put-word .ensures) (fifth .put3 .ensures)
+returns c = search server-put
 
 pub put-server-spec : {M : Type 1} → statement M
 put-server-spec =

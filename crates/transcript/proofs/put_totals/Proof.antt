@@ -1,4 +1,5 @@
--- `transcript::put_totals` meets its contract. The five words are joined. Assumes nothing.
+-- `transcript::put_totals` meets its contract. The five words are joined: the line is one lemma of `Lines`, and `search` finds the words that it
+-- asks for. Assumes nothing.
 use Rattle.transcript.specs.Text.{blocksWord, carriagesWord, newline}
 use Rattle.transcript.proofs.Lines.{totals-put}
 use borrow.Author.Needs.{needs}
@@ -38,13 +39,7 @@ same-length c = search needs
 
 returns : tie.Need-returns
 unfolding blocksWord carriagesWord newline
-returns c =
-    let fifth = c .before .before in
-    let fourth = fifth .before .before .before .before .before in
-    let third = fourth .before .before .before .before in
-    let second = third .before .before .before .before .before in
-    let first = second .before .before .before .before in
-    totals-put _ _ (first .put .ensures) (second .put-number .ensures) (third .put2 .ensures) (fourth .put-number2 .ensures) (fifth .put3 .ensures)
+returns c = search totals-put
 
 pub put-totals-spec : {M : Type 1} → statement M
 put-totals-spec =

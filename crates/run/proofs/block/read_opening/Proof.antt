@@ -1,8 +1,7 @@
--- `run::block::read_opening` meets its contract. Assumes nothing.
+-- `run::block::read_opening` meets its contract. The bytes are read off, and the counts of routes are those that are due (`Opened`); `search` finds the
+-- sets and the sizes that they are made of. Assumes nothing.
 use mathlib.Core.Path.{refl}
-use Prim.Native.Nat.{_+_}
-use native.Mathlib.Omega.{arith}
-use Rattle.run.proofs.Opened.{product-few, square-more, inward-so, among-so, outward-so}
+use Rattle.run.proofs.Opened.{each-fits, square-fits, square-more, inward-so, among-so, outward-so}
 use borrow.Author.Needs.{needs}
 use Rattle.run.proofs.block.read_opening.Statement.{statement}
 use Rattle.run.proofs.block.read_opening.Tie as tie
@@ -31,34 +30,34 @@ add-each : tie.Need-add-each
 add-each c = search needs
 
 size-in-requires : tie.Need-size-in-requires
-size-in-requires c κs = c .before .before .before .before .before .before .pre .2
+size-in-requires c κs = search needs
 
 minus-requires-2 : tie.Need-minus-requires-2
 minus-requires-2 c κs = search needs
 
 size-in-requires-2 : tie.Need-size-in-requires-2
-size-in-requires-2 c κs = c .before .before .before .before .before .before .before .before .pre .2
+size-in-requires-2 c κs = search needs
 
 mul-inward : tie.Need-mul-inward
-mul-inward c = let z = product-few (c .size-in2 .result) (c .before .before .before .before .before .before .before .before .before .args .f + 1) (let b = c .size-in2 .ensures .1 in omega arith) (omega arith) in omega arith
+mul-inward c = search (needs, each-fits)
 
 mul-among : tie.Need-mul-among
-mul-among c = let s = c .before .before .size-in in let b = s .ensures .1 in let z = product-few (s .result) (s .result) (omega arith) (omega arith) in omega arith
+mul-among c = search (needs, square-fits)
 
 sub-among : tie.Need-sub-among
-sub-among c = square-more _
+sub-among c = search square-more
 
 minus-requires-3 : tie.Need-minus-requires-3
 minus-requires-3 c κs = search needs
 
 size-in-requires-3 : tie.Need-size-in-requires-3
-size-in-requires-3 c κs = c .before .before .before .before .before .before .before .before .before .before .pre .2
+size-in-requires-3 c κs = search needs
 
 mul-outward : tie.Need-mul-outward
-mul-outward c = let z = product-few (c .size-in3 .result) (c .before .before .before .before .before .before .before .before .before .before .before .args .f + 1) (let b = c .size-in3 .ensures .1 in omega arith) (omega arith) in omega arith
+mul-outward c = search (needs, each-fits)
 
 size-in-requires-4 : tie.Need-size-in-requires-4
-size-in-requires-4 c κs = c .before .before .before .before .before .before .before .before .before .before .before .pre .2
+size-in-requires-4 c κs = search needs
 
 returns : tie.Need-returns
 returns c = record {
@@ -67,10 +66,10 @@ returns c = record {
   fault = refl;
   side = refl;
   quorum = refl;
-  inward = inward-so _ _ _ _ _ (c .before .before .before .before .minus2 .ensures) (c .before .before .before .size-in2 .ensures .0);
-  among = among-so _ _ (c .before .before .before .before .before .size-in .ensures .0);
-  outward = outward-so _ _ _ _ (omega arith) _ _ _ _ (c .before .before .before .before .before .before .before .full .ensures) (c .before .before .before .before .before .before .minus .ensures) (c .before .before .minus3 .ensures) (c .before .size-in3 .ensures .0);
-  reports = c .size-in4 .ensures .0;
+  inward = search inward-so;
+  among = search among-so;
+  outward = search outward-so;
+  reports = search needs;
 }
 
 pub read-opening-spec : {M : Type 1} → statement M

@@ -1,12 +1,11 @@
--- `run::call::run_blocks` meets its contract. The invariant of its loop: the blocks that are left give the answer of the whole. The measure is how
--- many blocks are left. Assumes nothing.
+-- `run::call::run_blocks` meets its contract. The invariant of its loop, `Along`: the blocks that are left give the answer of the whole. The measure is
+-- how many blocks are left. What a turn needs are lemmas of `Blockwise`, whose premises `search` finds. Assumes nothing.
 use Prim.Native.Nat.{_-_}
 use native.Mathlib.Omega.{arith}
 use borrow.Author.Needs.{needs}
 use Rattle.run.specs.Speaking.{bitsOf, worksOf}
 use Rattle.run.specs.Answers.{valuesOf}
-use Rattle.run.proofs.Placed.{reports-few}
-use Rattle.run.proofs.Blockwise.{Along, blocks-start, blocks-end, opening-there, block-ready, bytes-fit, numbers-behind, blocks-turn}
+use Rattle.run.proofs.Blockwise.{Along, blocks-start, blocks-end, opening-there, block-ready, Room, block-room, blocks-turn}
 use Rattle.run.proofs.call.run_blocks.Statement.{statement}
 use Rattle.run.proofs.call.run_blocks.Tie as tie
 use Rattle.run.proofs.call.run_blocks.Reads as reads
@@ -25,6 +24,12 @@ Inv-loop n f blocks faulty table plan sizes lowests values₀ at₀ number₀ k�
 abbrev μ-loop : tie.MeasureT-loop
 μ-loop n f blocks faulty table plan sizes lowests values₀ at₀ number₀ k₀ values at number k = blocks - k
 
+-- once its opening is read, the block is known to end inside the plan
+room : (c : tie.After-read-opening Inv-loop μ-loop) →
+    let l = c .before .before .before .before in
+    Room (l .before .before .before .before .before .args .plan .now) (l .loop .at) (l .loop .number) (c .read-opening .result)
+room c = search block-room
+
 sizes-requires : tie.Need-sizes-requires Inv-loop μ-loop
 sizes-requires c κs = search needs
 
@@ -32,7 +37,7 @@ lowests-requires : tie.Need-lowests-requires Inv-loop μ-loop
 lowests-requires c κs = search needs
 
 loop-holds : tie.Need-loop-holds Inv-loop μ-loop
-loop-holds c = let p = c .before .before .before .before .pre in blocks-start _ _ _ _ _ _ _ _ (p .3)
+loop-holds c = search blocks-start
 
 sub-part : tie.Need-sub-part Inv-loop μ-loop
 sub-part c = search needs
@@ -43,27 +48,25 @@ part-part-start c = search needs
 part-part-end : tie.Need-part-part-end Inv-loop μ-loop
 part-part-end c = search needs
 
+-- the opening command of the next block is there
 read-opening-requires : tie.Need-read-opening-requires Inv-loop μ-loop
-read-opening-requires c κs = (c .before .before .before .before .before .before .before .before .pre .0, opening-there _ _ _ _ _ _ _ _ _ _ _ _ (c .before .before .before .loop .inv) (c .before .before .loop-test .taken), c .before .before .before .before .before .sizes .ensures)
+read-opening-requires c κs = search (needs, opening-there)
 
+-- and the block is ready to run
 run-block-requires : tie.Need-run-block-requires Inv-loop μ-loop
-run-block-requires c κs = let l = c .before .before .before .before .before .loop in (block-ready _ _ _ _ _ _ _ _ _ _ _ _ (c .before .before .before .before .before .loop .inv) (c .before .before .before .before .loop-test .taken) (c .before .before .before .before .before .before .before .before .before .before .pre .0) (c .before .before .before .before .before .before .before .before .before .before .pre .1) (c .before .before .before .before .before .before .before .before .before .before .pre .2) _ (c .before .read-opening .ensures), (let b = l .inv .behind in let i = l .inv .inside in let p = c .before .before .before .before .before .before .before .before .before .before .pre .2 in omega arith), c .before .before .before .before .before .before .lowests .ensures)
+run-block-requires c κs = search (needs, block-ready)
 
 bytes-requires : tie.Need-bytes-requires Inv-loop μ-loop
-bytes-requires c κs = let b = bytes-fit _ _ _ _ _ _ _ _ _ _ _ _ (c .before .before .before .before .before .before .loop .inv) (c .before .before .before .before .before .loop-test .taken) (c .before .before .before .before .before .before .before .before .before .before .before .pre .0) (c .before .before .before .before .before .before .before .before .before .before .before .pre .1) (c .before .before .before .before .before .before .before .before .before .before .before .pre .2) _ (c .before .before .read-opening .ensures) in omega arith
+bytes-requires c κs = omega (arith, room (c .before .before))
 
 add-at : tie.Need-add-at Inv-loop μ-loop
-add-at c = let b = bytes-fit _ _ _ _ _ _ _ _ _ _ _ _ (c .before .before .before .before .before .before .before .loop .inv) (c .before .before .before .before .before .before .loop-test .taken) (c .before .before .before .before .before .before .before .before .before .before .before .before .pre .0) (c .before .before .before .before .before .before .before .before .before .before .before .before .pre .1) (c .before .before .before .before .before .before .before .before .before .before .before .before .pre .2) _ (c .before .before .before .read-opening .ensures) in search needs
+add-at c = search (needs, room (c .before .before .before))
 
 carriages-requires : tie.Need-carriages-requires Inv-loop μ-loop
-carriages-requires c κs =
-    let b = bytes-fit _ _ _ _ _ _ _ _ _ _ _ _ (c .before .before .before .before .before .before .before .loop .inv) (c .before .before .before .before .before .before .loop-test .taken) (c .before .before .before .before .before .before .before .before .before .before .before .before .pre .0) (c .before .before .before .before .before .before .before .before .before .before .before .before .pre .1) (c .before .before .before .before .before .before .before .before .before .before .before .before .pre .2) _ (c .before .before .before .read-opening .ensures) in
-    let r = block-ready _ _ _ _ _ _ _ _ _ _ _ _ (c .before .before .before .before .before .before .before .loop .inv) (c .before .before .before .before .before .before .loop-test .taken) (c .before .before .before .before .before .before .before .before .before .before .before .before .pre .0) (c .before .before .before .before .before .before .before .before .before .before .before .before .pre .1) (c .before .before .before .before .before .before .before .before .before .before .before .before .pre .2) _ (c .before .before .before .read-opening .ensures) in
-    let few = reports-few _ _ r in
-    (omega arith, omega arith, r .bound)
+carriages-requires c κs = search (needs, room (c .before .before .before))
 
 add-number : tie.Need-add-number Inv-loop μ-loop
-add-number c = let b = bytes-fit _ _ _ _ _ _ _ _ _ _ _ _ (c .before .before .before .before .before .before .before .before .loop .inv) (c .before .before .before .before .before .before .before .loop-test .taken) (c .before .before .before .before .before .before .before .before .before .before .before .before .before .pre .0) (c .before .before .before .before .before .before .before .before .before .before .before .before .before .pre .1) (c .before .before .before .before .before .before .before .before .before .before .before .before .before .pre .2) _ (c .before .before .before .before .read-opening .ensures) in let m = numbers-behind _ _ _ _ _ _ _ _ _ _ _ _ (c .before .before .before .before .before .before .before .before .loop .inv) (c .before .before .before .before .before .before .before .loop-test .taken) (c .before .before .before .before .before .before .before .before .before .before .before .before .before .pre .0) (c .before .before .before .before .before .before .before .before .before .before .before .before .before .pre .1) (c .before .before .before .before .before .before .before .before .before .before .before .before .before .pre .2) _ (c .before .before .before .before .read-opening .ensures) in search needs
+add-number c = search (needs, room (c .before .before .before .before))
 
 add-k : tie.Need-add-k Inv-loop μ-loop
 add-k c = search needs
@@ -72,10 +75,10 @@ loop-less : tie.Need-loop-less Inv-loop μ-loop
 loop-less c = search needs
 
 loop-again : tie.Need-loop-again Inv-loop μ-loop
-loop-again c = blocks-turn _ _ _ _ _ _ _ _ _ _ _ _ (c .before .before .before .before .before .before .before .before .loop .inv) (c .before .before .before .before .before .before .before .loop-test .taken) (c .before .before .before .before .before .before .before .before .before .before .before .before .before .pre .0) (c .before .before .before .before .before .before .before .before .before .before .before .before .before .pre .1) (c .before .before .before .before .before .before .before .before .before .before .before .before .before .pre .2) _ (c .before .before .before .before .read-opening .ensures) _ _ (c .before .before .run-block .ensures) _ _ (c .before .bytes .ensures) (c .carriages .ensures)
+loop-again c = search blocks-turn
 
 returns : tie.Need-returns Inv-loop μ-loop
-returns c = blocks-end _ _ _ _ _ _ _ _ _ _ _ _ (c .before .loop .inv) (omega arith)
+returns c = search blocks-end
 
 pub run-blocks-spec : {M : Type 1} → statement M
 run-blocks-spec =

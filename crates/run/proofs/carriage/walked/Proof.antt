@@ -1,15 +1,9 @@
--- `run::carriage::walked` meets its contract. The invariant of its loop: the servers passed and those still to come make up the path, and the mark says
--- whether one of those passed is faulty. The measure is what is left of the eight bytes. Assumes nothing.
+-- `run::carriage::walked` meets its contract. The invariant of its loop, `Passing`: the servers passed and those still to come make up the path, and the
+-- mark says whether one of those passed is faulty. The measure is what is left of the eight bytes. Each need of a turn is one lemma of `Carried`, whose
+-- premises `search` finds. Assumes nothing.
 use borrow.Author.Needs.{needs}
-use mathlib.Core.Path.{_≡_, _∙_}
-use mathlib.Core.Bool.{_||_}
-use Prim.Native.Nat.{_+_, _-_, _≤_}
-use native.Mathlib.Omega.{arith}
-use lib.ListN.{length, take, drop}
-use Rattle.route.specs.Route.{path}
-use Rattle.route.proofs.Paths.{path-stops, path-passes, path-ends}
-use Rattle.steps.specs.Hearing.{hit}
-use Rattle.run.proofs.Carried.{place-starts, hit-first, hit-more}
+use Prim.Native.Nat.{_-_}
+use Rattle.run.proofs.Carried.{Passing, passing-starts, passing-stops, passing-goes, passing-ends, passing-mark}
 use Rattle.run.proofs.carriage.walked.Statement.{statement}
 use Rattle.run.proofs.carriage.walked.Tie as tie
 use Rattle.run.proofs.carriage.walked.Reads as reads
@@ -17,8 +11,7 @@ use Rattle.run.proofs.carriage.walked.Lts as lts
 use Rattle.sets.proofs.member.Reads as member-reads
 
 abbrev Inv-loop : tie.InvT-loop
-Inv-loop faulty operand h₀ k₀ h k =
-    (1 ≤ k) × (k ≤ 7) × ((k + 1) + length (path (drop (k + 1) (take 8 operand))) ≡ length (path (take 8 operand))) × (h ≡ hit faulty (take k operand))
+Inv-loop faulty operand h₀ k₀ h k = Passing faulty operand h k
 
 abbrev μ-loop : tie.MeasureT-loop
 μ-loop faulty operand h₀ k₀ h k = 7 - k
@@ -30,9 +23,7 @@ member-requires : tie.Need-member-requires Inv-loop μ-loop
 member-requires c κs = search needs
 
 loop-holds : tie.Need-loop-holds Inv-loop μ-loop
-loop-holds c =
-    let p = c .before .before .before .pre in
-    (omega arith, omega arith, place-starts (take 8 (c .before .before .before .args .operand .now)) (p .1), c .member .ensures ∙ hit-first _ (c .before .before .before .args .operand .now) (let w = p .0 in omega arith))
+loop-holds c = search passing-starts
 
 shared-slice-read-member-2 : tie.Need-shared-slice-read-member-2 Inv-loop μ-loop
 shared-slice-read-member-2 c = search needs
@@ -46,11 +37,9 @@ add-if1 c = search needs
 shared-slice-read-if1 : tie.Need-shared-slice-read-if1 Inv-loop μ-loop
 shared-slice-read-if1 c = search needs
 
+-- the fill comes next
 returns : tie.Need-returns Inv-loop μ-loop
-returns c =
-    let i = c .before .before .before .before .before .loop .inv in
-    let l = c .before .before .before .before .loop-test .taken in
-    (path-stops (c .before .before .before .before .before .before .before .before .before .args .operand .now) (c .before .before .before .before .before .before .before .before .before .pre .0) _ (omega arith) (i .2) (c .if1 .taken), i .0, i .1, i .3)
+returns c = search (needs, passing-stops)
 
 add-k : tie.Need-add-k Inv-loop μ-loop
 add-k c = search needs
@@ -59,21 +48,11 @@ loop-less : tie.Need-loop-less Inv-loop μ-loop
 loop-less c = search needs
 
 loop-again : tie.Need-loop-again Inv-loop μ-loop
-loop-again c =
-    let o = c .before .before .before .before .before .before .before .before .before .args .operand .now in
-    let p = c .before .before .before .before .before .before .before .before .before .pre in
-    let i = c .before .before .before .before .before .loop .inv in
-    let l = c .before .before .before .before .loop-test .taken in
-    let m = c .before .before .member2 .ensures in
-    let h = i .3 in
-    (omega arith, omega arith, path-passes o (p .0) _ (omega arith) (i .2) (c .if1 .left), (λ j. h j || m j) ∙ hit-more _ o (c .before .before .before .before .before .loop .k) (let w = p .0 in omega arith))
+loop-again c = search passing-goes
 
+-- there is no fill
 returns-2 : tie.Need-returns-2 Inv-loop μ-loop
-returns-2 c =
-    let i = c .before .loop .inv in
-    let l = c .loop-test .left in
-    let z : c .before .loop .k ≡ 7 = omega arith in
-    (path-ends (c .before .before .before .before .before .args .operand .now) (c .before .before .before .before .before .pre .0) _ (omega arith) (omega arith) (i .2), omega arith, omega arith, rw z at (i .3))
+returns-2 c = search (needs, passing-ends, passing-mark)
 
 pub walked-spec : {M : Type 1} → statement M
 walked-spec =
