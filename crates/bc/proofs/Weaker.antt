@@ -6,14 +6,14 @@
 -- Assumes nothing.
 use mathlib.Core.Path.{_≡_, sym, ap, subst}
 use mathlib.Core.Logic.{⊎-elim}
-use mathlib.Core.Bool.{not, _&&_}
+use mathlib.Core.Bool.{not}
 use mathlib.Core.List.{List, [], _∷_, List·Memᴰ, List·Memᴰ·cases-cons, Memᴰ·append-left}
 use Prim.Native.Nat.{ℕ, _<_}
 use Rattle.facts.specs.Lists.{Each}
 use Rattle.facts.proofs.Bools.{both}
-use Rattle.sets.specs.Sets.{Set, Edges, In, Out}
-use Rattle.bc.specs.Algorithm.{Path, onWay, Choice}
-use Rattle.bc.specs.Allowed.{PathTo, Disjoint, Neighbours, Allowed, PathOf, Separate}
+use Rattle.sets.specs.Sets.{Set, Edges, Out}
+use Rattle.bc.specs.Algorithm.{Path, onWay}
+use Rattle.bc.specs.Allowed.{PathTo, Disjoint, Neighbours, PathOf, Separate}
 use Rattle.bc.specs.Theorems.{Weaker}
 
 path-of : (n : ℕ) (E : Edges) (F : Set) (j : ℕ) (p : Path) → PathTo n E F j p → PathOf n F p

@@ -15,7 +15,7 @@ use Prim.Native.Nat.{ℕ, suc, _≤_, _<_}
 use lib.ListN.{length}
 use Rattle.facts.specs.Lists.{Each}
 use Rattle.sets.specs.Sets.{Set, Edges, In, Out, count}
-use Rattle.bc.specs.Algorithm.{Path, onWay, Choice, Values, rest}
+use Rattle.bc.specs.Algorithm.{Path, onWay, Choice, rest}
 
 -- paths
 

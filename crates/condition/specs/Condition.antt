@@ -7,10 +7,10 @@
 --     Condition n f E       <-> for any partition with L and R not empty and |F| ≤ f, either L∪C → R or R∪C → L
 use mathlib.Core.Path.{_≡_}
 use mathlib.Core.Logic.{_⊎_, _↔_}
-use mathlib.Core.Bool.{Bool, true, false, not, _&&_, _||_}
+use mathlib.Core.Bool.{true, _&&_, _||_}
 use mathlib.Core.List.{List}
 use Prim.Native.Nat.{ℕ, _^_, _≤_, _<_}
-use Rattle.sets.specs.Sets.{Set, Edges, In, Out, has, count}
+use Rattle.sets.specs.Sets.{Set, Edges, In, has, count}
 use Rattle.network.specs.Links.{Links, linkedIn}
 use Rattle.network.specs.Card.{network, readCard}
 use Rattle.network.specs.Split.{good, bad, someBelow, splitTest}

@@ -1,15 +1,14 @@
 -- What a command of an accepted card can be: the head at place 0, a link, or the end at the card's last byte. Every other outcome of a step
 -- would be the card's refusal. Assumes nothing.
-use mathlib.Core.Path.{_≡_, refl, sym, ap, _∙_}
-use mathlib.Core.Logic.{_⊎_, inl, inr, ⊎-elim}
-use mathlib.Core.Bool.{Bool, true, false, cond, not}
+use mathlib.Core.Path.{_≡_, sym}
+use mathlib.Core.Logic.{_⊎_, inl, inr}
+use mathlib.Core.Bool.{true, false}
 use mathlib.Core.List.{List}
-use Prim.Native.Nat.{ℕ, zero, suc, _+_, _≤_, _<_}
-use native.Mathlib.Omega.{arith}
+use Prim.Native.Nat.{ℕ, _+_, _≤_}
 use lib.ListN.{length, getD}
 use lib.Dec.{eqb, ltb}
-use borrow.Author.Tests.{ltb-true, ltb-false, eqb-true, eqb-false, le-ltb, lt-ltb}
-use Rattle.facts.proofs.Bools.{cases, clash}
+use borrow.Author.Tests.{ltb-false, eqb-true, eqb-false}
+use Rattle.facts.proofs.Bools.{cases}
 use Rattle.refusal.specs.Refused.{Refused, card}
 use Rattle.network.specs.Links.{Links, linkedIn, withLink}
 use Rattle.network.specs.Card.{network, refused, more, done, turnedBack, headFits, linkFits, headAt, linkAt, endAt, stepAt, readCard}

@@ -2,12 +2,11 @@
 -- Assumes nothing.
 use mathlib.Core.Path.{_≡_, refl, sym, ap, _∙_}
 use mathlib.Core.List.{List}
-use Prim.Native.Nat.{ℕ, _≤_}
-use native.Mathlib.Omega.{arith}
+use Prim.Native.Nat.{ℕ}
 use Rattle.refusal.specs.Refused.{Refused}
 use Rattle.network.specs.Links.{Links}
-use Rattle.network.specs.Card.{Network, network, refused, readCard, Head, head, turned, headOf, linksOf, linksAfter}
-use Rattle.network.specs.Split.{Split, unread, firstBad, splitOf, splitTest}
+use Rattle.network.specs.Card.{Network, network, refused, readCard, head, turned, headOf, linksOf, linksAfter}
+use Rattle.network.specs.Split.{unread, firstBad, splitOf, splitTest}
 use Rattle.network.specs.Proper.{Proper}
 use Rattle.network.proofs.Networks.{card-proper}
 

@@ -1,13 +1,12 @@
 -- Marks past the end of a row, and past the last row: there is no link there, and none can be put there.
 -- Assumes nothing.
-use mathlib.Core.Path.{_≡_, refl, sym, ap, _∙_}
-use mathlib.Core.Bool.{Bool, true, false}
-use mathlib.Core.List.{List, [], _∷_}
+use mathlib.Core.Path.{_≡_, refl}
+use mathlib.Core.Bool.{false}
+use mathlib.Core.List.{[]}
 use Prim.Native.Nat.{ℕ, _≤_}
 use native.Mathlib.Omega.{arith}
-use lib.ListN.{length, getD, set, List·getD-eq-default}
-use lib.Seq.{set-out, set-getD}
-use Rattle.network.specs.Links.{Links, linkedIn, withLink}
+use lib.ListN.{length, getD, List·getD-eq-default}
+use Rattle.network.specs.Links.{Links, linkedIn}
 
 pub linked-past-row : (links : Links) (u v : ℕ) → length (getD links u []) ≡ 8 → 8 ≤ v → linkedIn links u v ≡ false
 unfolding linkedIn

@@ -2,7 +2,7 @@
 -- link keeps it, and the end hands it on. Assumes nothing.
 use mathlib.Core.Path.{_≡_, refl, sym, ap, _∙_}
 use mathlib.Core.Logic.{_⊎_, inl, inr, ⊎-elim}
-use mathlib.Core.Bool.{Bool, true, false, cond, not, _&&_}
+use mathlib.Core.Bool.{Bool, true, false}
 use mathlib.Core.List.{List, []}
 use Prim.Native.Nat.{ℕ, zero, suc, _+_, _≤_, _<_}
 use native.Mathlib.Omega.{arith}
@@ -10,8 +10,7 @@ use lib.ListN.{length, getD, set, replicate, getD-replicate, List·getD-eq-defau
 use lib.Seq.{getD-set-same, getD-set-other, set-out}
 use lib.Dec.{eqb, ltb}
 use borrow.Author.Tests.{ltb-true, ltb-false, eqb-true, eqb-false}
-use Rattle.facts.proofs.Bools.{cases, clash, and-left, and-right, not-true, bools}
-use Rattle.refusal.specs.Refused.{Refused}
+use Rattle.facts.proofs.Bools.{cases, clash, bools}
 use Rattle.network.specs.Links.{Links, noLinks, linkedIn, withLink}
 use Rattle.network.specs.Card.{Network, network, refused, headFits, linkFits, readCard}
 use Rattle.network.specs.Proper.{Proper}

@@ -2,7 +2,7 @@
 -- definition counts down, and is never used up. One lemma for each way that a command ends. The loop over the links stands at a `Turn`, then at
 -- a whole link (`Linking`), then at one between two servers (`Fitting`). Assumes nothing.
 use mathlib.Core.Path.{_≡_, refl, sym, ap, _∙_}
-use mathlib.Core.Bool.{Bool, true, false, cond, not, _&&_}
+use mathlib.Core.Bool.{Bool, true, false, not, _&&_}
 use mathlib.Core.List.{List, []}
 use Prim.Native.Nat.{ℕ, zero, suc, _+_, _-_, _≤_, _<_}
 use native.Mathlib.Omega.{arith}
@@ -14,7 +14,7 @@ use Rattle.refusal.specs.Refused.{Refused, card, cardRefusal, refusalOf}
 use Rattle.refusal.specs.declared.CardGround.{CardGround}
 use Rattle.refusal.specs.declared.Refusal.{Refusal}
 use Rattle.network.specs.Links.{Links, noLinks, linkedIn, withLink}
-use Rattle.network.specs.Card.{Network, network, refused, Step, more, done, turnedBack, headFits, linkFits, headAt, linkAt, endAt, stepAt, commands, readCard, turned, headOf, linksAfter, withLinks}
+use Rattle.network.specs.Card.{Network, network, refused, more, done, turnedBack, headFits, linkFits, headAt, linkAt, endAt, stepAt, commands, readCard, turned, headOf, linksAfter, withLinks}
 use Rattle.network.specs.Places.{At, wholeLink, Opened, Opening, Closing}
 use Rattle.network.specs.declared.card.Head as C
 use Rattle.network.specs.Answers.{readingOf, Answered}

@@ -13,7 +13,6 @@ use lib.Dec.{leb}
 use lib.ListN.{getD}
 use lib.Pow.{pow-pos, pow-mono}
 use borrow.Author.Tests.{le-leb, lt-leb, eq-eqb}
-use Rattle.refusal.specs.Refused.{Refused}
 use Rattle.sets.specs.Sets.{meet, size, union, minus, full, next}
 use Rattle.sets.proofs.Members.{meet-comm, meet-nothing, apart-left, apart-right, union-small}
 use Rattle.sets.proofs.Apart.{next-apart, next-after, next-least, next-small}

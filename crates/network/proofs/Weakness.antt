@@ -6,17 +6,17 @@
 --     none-.., no-.. what a failed test says of the splits that are passed over; bad-here what all of them say
 -- Assumes nothing.
 use mathlib.Core.Path.{_≡_, refl, sym, ap, _∙_}
-use mathlib.Core.Bool.{Bool, true, false, cond, not, _&&_, _||_}
-use Prim.Native.Nat.{ℕ, zero, suc, _+_, _-_, _^_, _≤_, _<_}
+use mathlib.Core.Bool.{true, false, not, _&&_, _||_}
+use Prim.Native.Nat.{ℕ, _+_, _-_, _^_, _≤_, _<_}
 use native.Mathlib.Omega.{arith}
 use lib.Dec.{eqb, ltb, leb}
 use borrow.Author.Tests.{lt-ltb, le-ltb, eq-eqb, ne-eqb, eqb-true}
-use Rattle.facts.proofs.Bools.{cases, clash, same, is-false, bools, both, and-left, and-right, not-true}
-use Rattle.sets.specs.Sets.{Set, has, union, meet, minus, full, count, size}
+use Rattle.facts.proofs.Bools.{cases, same, bools}
+use Rattle.sets.specs.Sets.{has, union, meet, minus, full, count, size}
 use Rattle.sets.proofs.Members.{has-union, has-minus, has-full, meet-apart, meet-comm, apart-union}
 use Rattle.sets.proofs.Counts.{count-same, count-beyond}
 use Rattle.network.specs.Links.{Links, linkedIn}
-use Rattle.network.specs.Split.{Split, good, bad, someBelow, incoming, held, rest, isSplit, isBad, badAt, firstFrom, badWithSides, badWithFaults}
+use Rattle.network.specs.Split.{good, bad, someBelow, incoming, held, rest, isSplit, isBad, badAt, badWithSides, badWithFaults}
 use Rattle.network.specs.Weak.{outside, weak}
 use Rattle.network.proofs.Search.{breaks, firstFrom-all}
 

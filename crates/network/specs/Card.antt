@@ -1,7 +1,7 @@
 -- What the bytes of a card give, command by command from the front, each command tested in the order of paper 01's table.
 --     readCard s  == the network n, f, links of the card, or its one refusal
 -- 01 stands first and only there, so a command is the first one exactly at place 0.
-use mathlib.Core.Bool.{Bool, true, false, cond, not, _&&_}
+use mathlib.Core.Bool.{Bool, cond, not, _&&_}
 use mathlib.Core.List.{List}
 use Prim.Native.Nat.{ℕ, zero, suc, _+_}
 use lib.ListN.{length, getD}

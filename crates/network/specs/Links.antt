@@ -1,6 +1,6 @@
 -- The one-way links of a network: eight rows of eight marks, row u with a mark at v for a link from u to v.
 use mathlib.Core.Bool.{Bool, true, false}
-use mathlib.Core.List.{List, [], _∷_}
+use mathlib.Core.List.{List, []}
 use Prim.Native.Nat.{ℕ}
 use lib.ListN.{getD, set, replicate}
 

@@ -1,8 +1,8 @@
 -- The split test of paper 01. V is split into F, L, C, R; sets are numbers, and the splits come in the order of F, then L, then R.
 --     splitTest s  == the first bad split of the network of card s, "good" if none is bad, or the card's refusal
-use mathlib.Core.Bool.{Bool, true, false, cond, not, _&&_, _||_}
+use mathlib.Core.Bool.{Bool, false, cond, not, _&&_, _||_}
 use mathlib.Core.List.{List}
-use Prim.Native.Nat.{ℕ, zero, suc, _+_, _^_}
+use Prim.Native.Nat.{ℕ, zero, suc, _^_}
 use lib.Dec.{eqb, leb}
 use Rattle.sets.specs.Sets.{Set, has, union, meet, minus, full, count, size}
 use Rattle.refusal.specs.Refused.{Refused}

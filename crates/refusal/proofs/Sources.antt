@@ -1,7 +1,6 @@
 -- Whatever its ground, a refusal of the card is the card's, and so for the plan and the call; a call's has place 0.
 -- Assumes nothing.
 use mathlib.Core.Path.{_≡_, refl}
-use Prim.Native.Nat.{ℕ}
 use Rattle.refusal.specs.declared.CardGround.{CardGround}
 use Rattle.refusal.specs.declared.PlanGround.{PlanGround}
 use Rattle.refusal.specs.declared.CallGround.{CallGround}

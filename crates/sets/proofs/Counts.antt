@@ -8,13 +8,11 @@
 --     size-union, size-within, size-empty, size-none   the laws of sizes
 -- Assumes nothing.
 use mathlib.Core.Path.{_≡_, refl, sym, ap, _∙_}
-use mathlib.Core.Bool.{Bool, true, false, cond, not, _&&_, _||_}
-use Prim.Native.Nat.{ℕ, zero, suc, _+_, _-_, _*_, _^_, _≤_, _<_}
+use mathlib.Core.Bool.{true, false, _&&_, _||_}
+use Prim.Native.Nat.{ℕ, zero, suc, _+_, _-_, _^_, _≤_, _<_}
 use native.Mathlib.Omega.{arith}
-use lib.Pow.{pow-pos}
-use lib.Dec.{lit<}
 use Rattle.facts.proofs.Bools.{cases, clash, is-false}
-use Rattle.sets.specs.Sets.{Set, In, Out, has, union, meet, minus, within, count, size}
+use Rattle.sets.specs.Sets.{Set, In, Out, has, union, meet, within, count, size}
 use Rattle.sets.proofs.Members.{has-union, has-meet, has-empty, has-beyond, within-in, no-member}
 
 pub count-same : (n : ℕ) (p q : Set) → ((i : ℕ) → i < n → p i ≡ q i) → count n p ≡ count n q

@@ -1,12 +1,12 @@
 -- The lowest member of a set: a member, and no member is below it; 8 for the empty set.
 -- Assumes nothing.
-use mathlib.Core.Path.{_≡_, refl, sym, ap, _∙_}
+use mathlib.Core.Path.{_≡_, _∙_}
 use mathlib.Core.Logic.{_⊎_, inl, inr, ⊎-elim}
-use mathlib.Core.Bool.{Bool, true, false, cond}
-use Prim.Native.Nat.{ℕ, zero, suc, _+_, _^_, _≤_, _<_}
+use mathlib.Core.Bool.{true, false}
+use Prim.Native.Nat.{ℕ, zero, suc, _+_, _≤_, _<_}
 use native.Mathlib.Omega.{arith}
 use Rattle.facts.proofs.Bools.{cases, clash}
-use Rattle.sets.specs.Sets.{Set, In, Out, has, firstIn, lowest}
+use Rattle.sets.specs.Sets.{Set, In, has, firstIn, lowest}
 use Rattle.sets.proofs.Members.{has-empty, no-member}
 
 -- the search ends at the bound with nothing found, or at a member

@@ -11,7 +11,7 @@
 --     within-in     a subset's members are members; in-within the other way
 -- Assumes nothing.
 use mathlib.Core.Path.{_≡_, refl, sym, ap, _∙_}
-use mathlib.Core.Bool.{Bool, true, false, cond, not, _&&_, _||_}
+use mathlib.Core.Bool.{true, false, cond, not, _&&_, _||_}
 use Prim.Native.Nat.{ℕ, zero, suc, _+_, _-_, _*_, _/_, _%_, _^_, _≤_, _<_, min, max}
 use native.Mathlib.Nat.{pow-suc, one-mul}
 use native.Mathlib.Numerals.{add-one}
@@ -21,7 +21,7 @@ use lib.Pow.{shr-shr, shl-exact, pow-pos, mod-mod-pow, field}
 use lib.Dec.{eqb, ltb, lit<, eqb·zero-suc, eqb·suc-zero, eqb·suc-suc}
 use borrow.Author.Tests.{lt-ltb, le-ltb, eq-eqb, eqb-true, eqb-false, ltb-true, ltb-false}
 use Rattle.facts.proofs.Bools.{cases, clash, same, and-left, and-right, both}
-use Rattle.sets.specs.Sets.{Set, In, Out, has, single, union, meet, minus, within, full, encode}
+use Rattle.sets.specs.Sets.{Set, has, single, union, meet, minus, within, full, encode}
 
 -- `meet` is what the code computes
 meet-is : (a b : ℕ) → meet a b ≡ bitAnd a b

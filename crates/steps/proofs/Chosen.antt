@@ -28,9 +28,9 @@ use Rattle.sets.proofs.LowestMember.{lowest-in}
 use Rattle.network.specs.Links.{Links, linkedIn}
 use Rattle.plan.specs.Members.{members}
 use Rattle.plan.specs.Due.{DueBlock, isPart}
-use Rattle.rules.specs.Blocks.{Route, sourceOf, receiverOf, Report, Block, Carriage, carriageOf, reportFrom, reportCarriages}
+use Rattle.rules.specs.Blocks.{Route, receiverOf, Report, Block, Carriage, carriageOf, reportFrom, reportCarriages}
 use Rattle.facts.specs.Lists.{Each}
-use Rattle.rules.specs.Rules.{IsRoute, Separate, AllSeparate, repeated, Fan, sourcesFor, pairsOf, endsOf, Mesh, reportsTo, InBlock}
+use Rattle.rules.specs.Rules.{IsRoute, AllSeparate, repeated, Fan, sourcesFor, pairsOf, endsOf, Mesh, reportsTo, InBlock}
 use Rattle.rules.proofs.Lists.{members-in, in-members, length-members}
 use Rattle.rules.proofs.Order.{part-back}
 use Rattle.rules.proofs.Groups.{each-cons, each-append}

@@ -12,10 +12,10 @@ use mathlib.Core.Bool.{true, not, _&&_}
 use mathlib.Core.List.{List, [], _∷_, _++_, List·Memᴰ, List·Memᴰ·head, List·Memᴰ·tail, List·Memᴰ·cases-cons, List·Memᴰ·append-cases}
 use Prim.Native.Nat.{ℕ, _+_, _^_, _≤_, _<_}
 use native.Mathlib.Omega.{arith}
-use lib.Dec.{eqb, leb}
+use lib.Dec.{leb}
 use lib.ListN.{length}
 use borrow.Author.Tests.{leb-true, lt-ltb}
-use Rattle.facts.proofs.Bools.{cases, clash, and-left, and-right}
+use Rattle.facts.proofs.Bools.{cases, clash, and-right}
 use Rattle.sets.specs.Sets.{Set, In, Out, has, minus, within, full, size, count, encode}
 use Rattle.sets.proofs.Members.{has-minus, has-full, has-empty, minus-small, full-small, in-within, encode-small, encode-has}
 use Rattle.sets.proofs.Counts.{count-same, size-count}

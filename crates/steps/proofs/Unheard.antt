@@ -15,16 +15,14 @@ use lib.ListN.{length, getD, take, drop, replicate, length-append}
 use lib.Seq.{getD-take}
 use Rattle.facts.proofs.Bools.{cases}
 use Rattle.sets.specs.Sets.{has, meet, minus, full}
-use Rattle.refusal.specs.Refused.{Refused}
 use Rattle.network.specs.Card.{Network, network, refused, readCard}
-use Rattle.plan.specs.Check.{Totals, totals, turned, checkPlan}
+use Rattle.plan.specs.Check.{Totals, totals, turned}
 use Rattle.rules.specs.Blocks.{Carriage, Block, carriageOf, reportCarriages, carriagesOf, planCarriages, decodePlan}
-use Rattle.rules.proofs.Progress.{turned-totals}
 use Rattle.rules.proofs.Main.{totalled}
 use Rattle.steps.specs.Hearing.{hit, message, brought, heard, all, common}
 use Rattle.steps.specs.Steps.{held, gather, compare, step1, step5, step6, Values, values, runBlock, runBlocks}
-use Rattle.steps.specs.Run.{runOn, runPlan, decided, written, afterAnswer, lentAfter}
-use Rattle.steps.specs.Demand.{carriagesIn, Unheard}
+use Rattle.steps.specs.Run.{runPlan, decided, written, afterAnswer, lentAfter}
+use Rattle.steps.specs.Demand.{Unheard}
 use Rattle.steps.proofs.Eight.{values-ext}
 use Rattle.steps.proofs.Decides.{called}
 

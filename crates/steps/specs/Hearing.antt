@@ -2,7 +2,7 @@
 --     brought ..     == the table's byte of the carriage's number if a server other than the receiver is faulty, else what the source holds
 --     heard ..       == what the carriages whose receiver is r bring, in plan order; the first of the list has number k
 --     common l       == the value that all of l are, 2 if they are not alike or there is none
-use mathlib.Core.Bool.{Bool, true, false, cond, not, _&&_, _||_}
+use mathlib.Core.Bool.{Bool, true, false, cond, _&&_, _||_}
 use mathlib.Core.List.{List, [], _∷_}
 use Prim.Native.Nat.{ℕ, suc}
 use lib.Dec.{eqb, ltb}

@@ -1,17 +1,16 @@
 -- P10 for every S of one server: there is no other member of S, so the block has no route of 12, and step 3 has no arrival to compare.
 -- Assumes nothing.
-use mathlib.Core.Path.{_≡_, refl, sym, ap, _∙_}
-use mathlib.Core.Bool.{true, cond, not, _&&_, and-false}
-use mathlib.Core.List.{List, [], _∷_, _++_, map}
+use mathlib.Core.Path.{_≡_, refl, ap, _∙_}
+use mathlib.Core.Bool.{cond, not, _&&_, and-false}
+use mathlib.Core.List.{List, [], _∷_, map}
 use Prim.Native.Nat.{ℕ, _<_}
 use native.Mathlib.Omega.{arith}
-use lib.Dec.{eqb}
 use lib.ListN.{length}
 use borrow.Author.Tests.{eq-eqb}
-use Rattle.sets.specs.Sets.{has, size}
+use Rattle.sets.specs.Sets.{has}
 use Rattle.plan.specs.Members.{members}
 use Rattle.plan.specs.Due.{due}
-use Rattle.rules.specs.Blocks.{Route, carriageOf, decodePlan}
+use Rattle.rules.specs.Blocks.{Route, decodePlan}
 use Rattle.rules.specs.Rules.{sourcesFor, pairsOf, endsOf}
 use Rattle.rules.proofs.Lists.{length-members}
 use Rattle.rules.proofs.Order.{order-of}

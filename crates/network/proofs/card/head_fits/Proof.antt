@@ -1,5 +1,5 @@
 -- `network::card::head_fits` meets its contract. Each test turns one part of the definition. Assumes nothing.
-use borrow.Author.Tests.{lt-ltb, le-ltb, le-leb, lt-leb, eq-eqb, ne-eqb}
+use borrow.Author.Tests.{lt-ltb, le-ltb}
 use Rattle.network.specs.Card.{headFits}
 use Rattle.network.proofs.card.head_fits.Statement.{statement}
 use Rattle.network.proofs.card.head_fits.Tie as tie

@@ -1,5 +1,5 @@
 -- `network::card::link_fits` meets its contract. Each test turns one part of the definition. Assumes nothing.
-use borrow.Author.Tests.{lt-ltb, le-ltb, le-leb, lt-leb, eq-eqb, ne-eqb}
+use borrow.Author.Tests.{lt-ltb, le-ltb}
 use Rattle.network.specs.Card.{linkFits}
 use Rattle.network.proofs.card.link_fits.Statement.{statement}
 use Rattle.network.proofs.card.link_fits.Tie as tie

@@ -1,9 +1,7 @@
 -- `network::card::read_card` meets its contract. The head gives the refusal, or the place from which the links are read (`opening-fails`,
 -- `opening-fits`). Assumes nothing.
-use mathlib.Core.Path.{_≡_, refl, sym, ap, _∙_}
-use mathlib.Core.Logic.{_⊎_, inl, inr, ⊎-elim}
-use mathlib.Core.Bool.{Bool, true, false}
-use Prim.Native.Nat.{ℕ, _+_, _-_, _≤_, _<_}
+use mathlib.Core.Path.{refl}
+use Prim.Native.Nat.{_-_}
 use native.Mathlib.Omega.{arith}
 use borrow.Author.Needs.{needs}
 use Rattle.network.proofs.Reading.{answered-refused, reading-long, opening-fails, opening-fits}

@@ -1,9 +1,5 @@
 -- `network::card::whole_link` meets its contract. Each test turns one part of the definition. Assumes nothing.
-use mathlib.Core.Path.{_≡_, refl, sym, ap, _∙_}
-use mathlib.Core.Logic.{_⊎_, inl, inr, ⊎-elim}
-use mathlib.Core.Bool.{Bool, true, false}
-use Prim.Native.Nat.{ℕ, _+_, _-_, _≤_, _<_}
-use native.Mathlib.Omega.{arith}
+use Prim.Native.Nat.{_-_}
 use borrow.Author.Needs.{needs}
 use Rattle.network.proofs.Reading.{whole-short, whole-long}
 use Rattle.network.proofs.card.whole_link.Statement.{statement}

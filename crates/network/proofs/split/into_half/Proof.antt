@@ -1,9 +1,5 @@
 -- `network::split::into_half` meets its contract. The union of four rows, each kept or not (`joined-four`). Assumes nothing.
-use mathlib.Core.Path.{_≡_, refl, sym, ap, _∙_}
-use mathlib.Core.Logic.{_⊎_, inl, inr, ⊎-elim}
-use mathlib.Core.Bool.{Bool, true, false}
-use Prim.Native.Nat.{ℕ, _+_, _-_, _≤_, _<_}
-use native.Mathlib.Omega.{arith}
+use Prim.Native.Nat.{_-_}
 use borrow.Author.Needs.{needs}
 use Rattle.network.proofs.SourceRows.{joined-four}
 use Rattle.network.proofs.split.into_half.Statement.{statement}

@@ -1,11 +1,8 @@
 -- `network::split::is_weak` meets its contract. The two tables give the servers with a link into s (`halves-into`), and the table of sizes counts
 -- those outside s and F (`size-outside`). Assumes nothing.
 use lib.Dec.{leb}
-use mathlib.Core.Path.{_≡_, refl, sym, ap, _∙_}
-use mathlib.Core.Logic.{_⊎_, inl, inr, ⊎-elim}
-use mathlib.Core.Bool.{Bool, true, false}
-use Prim.Native.Nat.{ℕ, _+_, _-_, _≤_, _<_}
-use native.Mathlib.Omega.{arith}
+use mathlib.Core.Path.{ap, _∙_}
+use Prim.Native.Nat.{ℕ, _-_}
 use borrow.Author.Needs.{needs}
 use Rattle.network.proofs.SourceRows.{halves-into}
 use Rattle.network.proofs.Weakness.{size-outside}

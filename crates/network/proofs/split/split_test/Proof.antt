@@ -1,10 +1,7 @@
 -- `network::split::split_test` meets its contract. The card reader gives the refusal, or a proper network, whose first bad split is searched. Assumes
 -- nothing.
-use mathlib.Core.Path.{_≡_, refl, sym, ap, _∙_}
-use mathlib.Core.Logic.{_⊎_, inl, inr, ⊎-elim}
-use mathlib.Core.Bool.{Bool, true, false}
-use Prim.Native.Nat.{ℕ, _+_, _-_, _≤_, _<_}
-use native.Mathlib.Omega.{arith}
+use mathlib.Core.Path.{sym, ap, _∙_}
+use Prim.Native.Nat.{_-_}
 use borrow.Author.Needs.{needs}
 use Rattle.network.specs.Answers.{readingOf}
 use Rattle.network.proofs.Heads.{head-proper, refused-split, network-split}

@@ -3,7 +3,6 @@
 use mathlib.Core.Path.{refl, sym, _∙_}
 use native.Mathlib.Omega.{arith}
 use borrow.Author.Needs.{needs}
-use Rattle.route.specs.Commands.{width}
 use Rattle.plan.proofs.Groups.{whole-command}
 use Rattle.plan.proofs.Parts.{Point, FromFault, FromSide, FromQuorum, block-cut, block-other, block-here, block-fault, block-known, block-side, block-part, block-empty, block-outside, block-rest}
 use Rattle.plan.proofs.check.check_block.Statement.{statement}

@@ -5,7 +5,6 @@ use mathlib.Core.Path.{_≡_, refl, _∙_}
 use Prim.Native.Nat.{suc, _+_, _-_, _≤_}
 use native.Mathlib.Omega.{arith}
 use borrow.Author.Needs.{needs}
-use Rattle.route.specs.Route.{checkedRoute}
 use Rattle.plan.specs.Check.{checkGroup}
 use Rattle.plan.specs.Answers.{groupOf}
 use Rattle.plan.proofs.Groups.{Point, FromCommand, FromRoute, FromSharing, group-cut, group-inside, group-other, group-due, group-done, route-wrong, route-sound, route-shares, route-apart}

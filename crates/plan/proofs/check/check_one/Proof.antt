@@ -3,7 +3,6 @@
 use mathlib.Core.Path.{refl}
 use native.Mathlib.Omega.{arith}
 use borrow.Author.Needs.{needs}
-use Rattle.route.specs.Route.{checkedRoute}
 use Rattle.route.specs.Commands.{width}
 use Rattle.plan.specs.Answers.{groupOf}
 use Rattle.plan.specs.Check.{checkGroup}
