@@ -1,5 +1,5 @@
 /*
- * The agreement library: split test, plan check and run.
+ * The agreement library: card reader, split test, plan check and run.
  *
  * The library is written in Rattle and proved: every function below meets the contract that is
  * written above it, for all arguments. It allocates nothing, keeps no state and calls nothing, so

@@ -4,7 +4,7 @@
 --     Connected n E F S ps       <-> S is strongly connected in V − F, by the paths ps
 --     Neighbours n f E F k ps    <-> ps are f + 1 incoming neighbours of k in V − F
 --     Allowed n f E b            <-> the choices of b are such as the algorithm allows
---     Sound n f b                <-> what validity and agreement ask of b, which is less: nothing about links, and nothing about B
+--     Sound n f b                <-> what validity and agreement ask of b, which is less: no links, servers may be twice on a path, nothing about B
 --     Covers n X bs              <-> bs are iterations with F = X that have every cut of V − X
 -- The paper also asks that A propagates to B. Where S is within A that follows at once, else by its Lemma 10; nothing below rests on it.
 use mathlib.Core.Path.{_≡_}
@@ -121,7 +121,7 @@ pub record Sound (n f : ℕ) (b : Choice) : Type 0 where
   pub outward : (i : ℕ) → i < n → Out (b .F) i → Out (b .S) i → Separate n f (b .F) (b .S) (b .outward i)
   pub reports : (k : ℕ) → k < n → In (b .F) k → Separate n f (b .F) (λ (i : ℕ). not (b .F i)) (b .reports k)
 
--- the iterations with F = X stand together as `mid`, and each way of cutting V − X into two parts that are not empty is A and B of one of them
+-- the iterations `mid` have F = X, and each way of cutting V − X into two parts that are not empty is A and B of one of them
 pub record Covers (n : ℕ) (X : Set) (mid : List Choice) : Type 0 where
   pub theirs : Each (λ b. (i : ℕ) → i < n → b .F i ≡ X i) mid
   pub cut : (Z : Set) → (a : ℕ) → a < n → Out X a → In Z a → (c : ℕ) → c < n → Out X c → Out Z c

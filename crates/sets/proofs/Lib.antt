@@ -1,7 +1,7 @@
 -- Members    membership in a union, a meet, a difference, a subset; equality by membership
 -- Counts     counts below n, and sizes
 -- Apart      the next set that is apart from a set
--- Lowest     the lowest member
+-- LowestMember   the lowest member
 -- Tables     the two tables of 256 entries, each with the one test that is computed over it
 pub mod Members
 pub mod Counts

@@ -10,7 +10,7 @@ use Rattle.network.proofs.Main.{card-proper}
 use Rattle.rules.specs.Blocks.{decodePlan}
 use Rattle.rules.proofs.Main.{decodes}
 use Rattle.steps.specs.Demand.{Chooses, DecidesAsBc, Demand3, Unheard, Unchanged, Untouched}
-use Rattle.steps.proofs.Planned.{planned-allowed, planned-covers-each}
+use Rattle.steps.proofs.Planned.{planned-allowed, planned-grouped}
 use Rattle.steps.proofs.Decides
 use Rattle.steps.proofs.Unheard
 use Rattle.steps.proofs.Kept
@@ -21,7 +21,7 @@ chooses card plan n f links e accepted table =
     let order = decodes card plan n f links e accepted .0 in
     record {
       allowed = planned-allowed n f links (decodePlan n f plan) few order table 0;
-      covered = planned-covers-each n f links (decodePlan n f plan) few order table 0;
+      grouped = planned-grouped n f links (decodePlan n f plan) few order table 0;
     }
 
 pub decides : DecidesAsBc

@@ -4,12 +4,13 @@
 --     choices-append  the choices of two lists of blocks, one after the other
 --     planned-allowed the choices are such as the algorithm allows; planned-sound: so they are sound
 --     blocks-cover    the choices of blocks with F = X that have every cut cover every cut
---     planned-covers  the choices with F = X stand together and cover every cut; planned-covers-each: so for every test X
+--     planned-covers  the choices with F = X stand together and cover every cut
+--     planned-grouped the same for every test X, with none of the others in between
 -- Assumes nothing.
 use mathlib.Core.Path.{_≡_, refl, sym, ap, _∙_, subst}
 use mathlib.Core.Logic.{_⊎_, inl, inr, ⊎-elim}
 use mathlib.Core.Bool.{true, not, _&&_}
-use mathlib.Core.List.{List, [], _∷_, _++_, List·Memᴰ, List·Memᴰ·head, List·Memᴰ·tail, List·Memᴰ·cases-cons, List·Memᴰ·append-cases}
+use mathlib.Core.List.{List, [], _∷_, _++_, List·Memᴰ, List·Memᴰ·head, List·Memᴰ·tail, List·Memᴰ·cases-cons, List·Memᴰ·append-cases, Memᴰ·append-left, Memᴰ·append-right}
 use Prim.Native.Nat.{ℕ, _+_, _^_, _≤_, _<_}
 use native.Mathlib.Omega.{arith}
 use lib.Dec.{leb}
@@ -17,7 +18,7 @@ use lib.ListN.{length}
 use borrow.Author.Tests.{leb-true, lt-ltb}
 use Rattle.facts.proofs.Bools.{cases, clash, and-right}
 use Rattle.sets.specs.Sets.{Set, In, Out, has, minus, within, full, size, count, encode}
-use Rattle.sets.proofs.Members.{has-minus, has-full, has-empty, minus-small, full-small, in-within, encode-small, encode-has}
+use Rattle.sets.proofs.Members.{has-minus, has-full, has-empty, minus-small, full-small, same-members, in-within, encode-small, encode-has}
 use Rattle.sets.proofs.Counts.{count-same, size-count}
 use Rattle.network.specs.Links.{Links, linkedIn}
 use Rattle.plan.specs.Members.{listFrom}
@@ -31,6 +32,7 @@ use Rattle.bc.specs.Algorithm.{Choice}
 use Rattle.bc.specs.Allowed.{Allowed, Sound, Covers}
 use Rattle.bc.proofs.Main.{weaker}
 use Rattle.steps.specs.Choices.{choiceOf, choicesOf}
+use Rattle.steps.specs.Demand.{Other, Grouped}
 use Rattle.steps.proofs.Chosen.{chosen-allowed}
 
 -- due blocks
@@ -197,12 +199,32 @@ covers-same n X Y mid same c =
       );
     }
 
-pub planned-covers-each : (n f : ℕ) (links : Links) (bs : List Block) → n ≤ 8 → InOrder n f links (due n f) bs
-    → (table : List ℕ) (number : ℕ) (X : Set) → count n X ≤ f
-    → (pre mid post : List Choice) × (choicesOf table number bs ≡ pre ++ mid ++ post) × Covers n X mid
-planned-covers-each n f links bs eight o table number X few =
+-- what is part of a list of blocks in order is due, so that its F is a number below 2^n; as a test it is X only if the number is that of X
+choices-other : (n f Y : ℕ) (links : Links) (bs part : List Block) → Each (λ b. List·Memᴰ b bs) part → InOrder n f links (due n f) bs
+    → Y < 2 ^ n → Each (λ b. b .faults ≡ Y → ⊥) part → (X : Set) → ((i : ℕ) → i < n → has Y i ≡ X i)
+    → (table : List ℕ) (number : ℕ) → Each (Other n X) (choicesOf table number part)
+choices-other n f Y links bs part inside o small others X same table number =
+    λ c m alike. let (b, j, k, e) = choice-in table number part c m in
+    let (d, l, r) = order-of n f links (due n f) bs o b (inside b j) in
+    let below : b .faults < 2 ^ n = rw (r .faults) (due-in n f d l .0) in
+    others b j (same-members n (b .faults) Y below small (λ i h. sym (ap (λ (x : Choice). x .F i) e ∙ ap (λ (s : Set). s i) (choice-F table k b)) ∙ alike i h ∙ sym (same i h)))
+
+pub planned-grouped : (n f : ℕ) (links : Links) (bs : List Block) → n ≤ 8 → InOrder n f links (due n f) bs
+    → (table : List ℕ) (number : ℕ) (X : Set) → count n X ≤ f → Grouped n X (choicesOf table number bs)
+planned-grouped n f links bs eight o table number X few =
     let Y = encode n X in
     let small = encode-small n X in
     let sized = size-count n Y eight small ∙ count-same n (has Y) X (encode-has n X) in
-    let (pre, mid, post, whole, c) = planned-covers n f Y links bs eight o small (omega arith) table number in
-    (pre, mid, post, whole, covers-same n X (has Y) mid (encode-has n X) c)
+    let t = order-together n f links bs eight o Y small (omega arith) in
+    let (k, e) = choices-append table number (t .pre ++ t .mid) (t .post) in
+    let (l, q) = choices-append table number (t .pre) (t .mid) in
+    let inside : Each (λ b. List·Memᴰ b bs) (t .pre ++ t .mid ++ t .post) = λ b m. rw (t .whole) m in
+    record {
+      pre = choicesOf table number (t .pre);
+      mid = choicesOf table l (t .mid);
+      post = choicesOf table k (t .post);
+      whole = ap (choicesOf table number) (t .whole) ∙ e ∙ ap (λ (x : List Choice). x ++ choicesOf table k (t .post)) q;
+      before = choices-other n f Y links bs (t .pre) (λ b m. inside b (Memᴰ·append-left (t .post) (Memᴰ·append-left (t .mid) m))) o small (t .preOthers) X (encode-has n X) table number;
+      covers = covers-same n X (has Y) (choicesOf table l (t .mid)) (encode-has n X) (blocks-cover n Y (t .mid) (t .theirs) (t .cut) table l);
+      after = choices-other n f Y links bs (t .post) (λ b m. inside b (Memᴰ·append-right (t .pre ++ t .mid) m)) o small (t .postOthers) X (encode-has n X) table k;
+    }

@@ -23,11 +23,25 @@ use Rattle.steps.specs.Steps.{held}
 use Rattle.steps.specs.Run.{runPlan, lentAfter}
 use Rattle.steps.specs.Choices.{choicesOf}
 
+-- the F of an iteration is not X
+abbrev pub Other : ℕ → Set → Choice → Type 0
+Other n X b = ((i : ℕ) → i < n → b .F i ≡ X i) → ⊥
+
+-- the iterations of bs with F = X stand together, and have every cut of V − X
+pub record Grouped (n : ℕ) (X : Set) (bs : List Choice) : Type 0 where
+  pub pre : List Choice
+  pub mid : List Choice
+  pub post : List Choice
+  pub whole : bs ≡ pre ++ mid ++ post
+  pub before : Each (Other n X) pre
+  pub covers : Covers n X mid
+  pub after : Each (Other n X) post
+
 -- the iterations bs, in a network with the links E: each is such as the algorithm allows, and for each X of at most f servers those with F = X stand
--- together and have every cut of V − X
+-- together and have every cut
 pub record WellChosen (n f : ℕ) (E : Edges) (bs : List Choice) : Type 0 where
   pub allowed : Each (Allowed n f E) bs
-  pub covered : (X : Set) → count n X ≤ f → (pre mid post : List Choice) × (bs ≡ pre ++ mid ++ post) × Covers n X mid
+  pub grouped : (X : Set) → count n X ≤ f → Grouped n X bs
 
 -- nothing is asked of the plan but its acceptance
 abbrev pub Chooses : Type 0

@@ -30,7 +30,9 @@ union-requires : tie.Need-union-requires Inv-loop μ-loop
 union-requires c κs = search needs
 
 loop-holds : tie.Need-loop-holds Inv-loop μ-loop
-loop-holds c = search walk-starts
+loop-holds c =
+    let start = c .before .before .before .before in
+    walk-starts _ _ _ _ _ _ (start .pre .0) (start .pre .2) _ _ (c .before .single .ensures) (c .union .ensures)
 
 shared-slice-read-server : tie.Need-shared-slice-read-server Inv-loop μ-loop
 shared-slice-read-server c = search needs

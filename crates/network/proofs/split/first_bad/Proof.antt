@@ -72,7 +72,7 @@ add-limit : tie.Need-add-limit Inv-loop2 μ-loop2 Inv-loop μ-loop Inv-scan μ-s
 add-limit c = search needs
 
 scan-holds : tie.Need-scan-holds Inv-loop2 μ-loop2 Inv-loop μ-loop Inv-scan μ-scan
-scan-holds c = search (scan-starts, limit-of)
+scan-holds c = (search needs, scan-starts _ _ _ _ _ _ (search needs) (search limit-of))
 
 cast-fault : tie.Need-cast-fault Inv-loop2 μ-loop2 Inv-loop μ-loop Inv-scan μ-scan
 cast-fault c = search needs
