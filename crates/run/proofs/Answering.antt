@@ -1,8 +1,8 @@
 -- The answer of a run: the card's refusal, the plan's, or that of the call; and demand 3 with it.
---     answer-card   a refused card
---     answer-plan   a refused plan
---     answer-call   an accepted plan
---     call-ready    what the blocks of an accepted plan are run on
+--     call-few, call-bound, call-short, call-runs    what the blocks of an accepted plan are run on
+--     answer-card    a refused card
+--     answer-plan    a refused plan
+--     answer-call    an accepted plan
 -- Assumes nothing.
 use mathlib.Core.Path.{_≡_, refl, sym, ap, _∙_}
 use mathlib.Core.List.{List, _++_}
@@ -12,11 +12,15 @@ use Rattle.refusal.specs.Refused.{Refused, refusalOf}
 use Rattle.refusal.specs.declared.Refusal.{Refusal}
 use Rattle.network.specs.Links.{Links}
 use Rattle.network.specs.Card.{network, refused, head, headOf, readCard, linksAfter}
-use Rattle.network.specs.Card as Card
+use Rattle.network.specs.Answers.{readingOf}
+use Rattle.network.specs.Answers as Reader
+use Rattle.network.specs.declared.card.Reading.{Reading}
 use Rattle.network.proofs.Heads.{refused-of}
 use Rattle.network.proofs.Main.{card-proper}
 use Rattle.plan.specs.Due.{due}
 use Rattle.plan.specs.Check.{totals, turned, checkPlan}
+use Rattle.plan.specs.Answers.{checkedOf}
+use Rattle.plan.specs.declared.check.Checked.{Checked}
 use Rattle.plan.proofs.Plans.{with-links}
 use Rattle.rules.specs.Blocks.{decodeBlocks, decodePlan}
 use Rattle.rules.proofs.Whole.{decode-length}
@@ -30,20 +34,29 @@ use Rattle.run.proofs.Accepting.{accepted-runnable}
 use Rattle.steps.proofs.Decides.{demand}
 
 -- the network that the card reader's answer gives, and its accepted plan
-module _ (card plan : List ℕ) (n f : ℕ) (before links : Links) (e : headOf (readCard card) ≡ head n f) (l : links ≡ linksAfter (readCard card) before) where
+module _ (card : List ℕ) (before links : Links) (reading : Reading) (read : Reader.Answered card before reading links) (n f : ℕ) (is : reading ≡ Reading.Network n f) where
   network-is : readCard card ≡ network n f links
-  network-is = with-links (readCard card) n f before e ∙ ap (network n f) (sym l)
+  network-is = with-links (readCard card) n f before (sym (read .reading) ∙ ap readingOf is) ∙ ap (network n f) (sym (read .links))
 
-  module _ (blocks carriages : ℕ) (c : totals blocks carriages ≡ checkPlan card plan) where
+  pub call-few : n ≤ 8
+  call-few = card-proper card n f links network-is .most
+
+  pub call-bound : f ≤ 2
+  call-bound = card-proper card n f links network-is .bound
+
+  module _ (plan : List ℕ) (checked : Checked) (check : checkedOf checked ≡ checkPlan card plan) (blocks carriages : ℕ) (ok : checked ≡ Checked.Accepted blocks carriages) where
+    accepted : checkPlan card plan ≡ totals blocks carriages
+    accepted = sym check ∙ ap checkedOf ok
+
     many : blocks ≡ length (due n f)
     unfolding decodePlan
-    many = totalled card plan n f links network-is blocks carriages (sym c) .0 ∙ decode-length n f plan (length (due n f))
+    many = totalled card plan n f links network-is blocks carriages accepted .0 ∙ decode-length n f plan (length (due n f))
 
-    pub call-ready : (n ≤ 8) × (f ≤ 2) × (length plan ≤ 1048576) × Runnable n f plan blocks
-    call-ready =
-        let proper = card-proper card n f links network-is in
-        let (short, runs) = accepted-runnable card plan n f links network-is (blocks, carriages, sym c) in
-        (proper .most, proper .bound, short, rw many runs)
+    pub call-short : length plan ≤ 1048576
+    call-short = accepted-runnable card plan n f links network-is (blocks, carriages, accepted) .0
+
+    pub call-runs : Runnable n f plan blocks
+    call-runs = rw many (accepted-runnable card plan n f links network-is (blocks, carriages, accepted) .1)
 
 module _ (card plan inputs : List ℕ) (X : ℕ) (table lent : List ℕ) where
   -- demand 3 holds of every answer that is the definition's
@@ -61,24 +74,27 @@ module _ (card plan inputs : List ℕ) (X : ℕ) (table lent : List ℕ) where
   unfolding lentAfter
   kept r e = rw e refl
 
-  pub answer-card : (g : Refusal) → headOf (readCard card) ≡ Card.turned (refusalOf g) → Answered card plan inputs X table lent (Ran.Refused g) lent
-  unfolding runPlan runOn
-  answer-card g e =
-      let run : runPlan card plan inputs X lent ≡ turned (refusalOf g) = rw (refused-of (readCard card) (refusalOf g) e) refl in
-      answered (Ran.Refused g) lent (sym run) (kept (refusalOf g) run)
-
-  module _ (n f : ℕ) (before links : Links) (e : headOf (readCard card) ≡ head n f) (l : links ≡ linksAfter (readCard card) before) where
-    pub answer-plan : (g : Refusal) → turned (refusalOf g) ≡ checkPlan card plan → Answered card plan inputs X table lent (Ran.Refused g) lent
+  module _ (before links : Links) (reading : Reading) (read : Reader.Answered card before reading links) where
+    pub answer-card : (g : Refusal) → reading ≡ Reading.Refused g → Answered card plan inputs X table lent (Ran.Refused g) lent
     unfolding runPlan runOn
-    answer-plan g c =
-        let run : runPlan card plan inputs X lent ≡ turned (refusalOf g) = rw (network-is card plan n f before links e l, ← c) refl in
+    answer-card g is =
+        let run : runPlan card plan inputs X lent ≡ turned (refusalOf g) = rw (refused-of (readCard card) (refusalOf g) (sym (read .reading) ∙ ap readingOf is)) refl in
         answered (Ran.Refused g) lent (sym run) (kept (refusalOf g) run)
 
-    module _ (blocks carriages : ℕ) (c : totals blocks carriages ≡ checkPlan card plan) where
-      pub answer-call : (r : Ran) (after : List ℕ) → ranOf r ≡ checkCall n f inputs X lent (totals blocks carriages)
-          → after ≡ afterAnswer (ranOf r) (decided n X (runBlocks n X table 0 (decodeBlocks n f plan blocks) (record { v = values (held inputs); t = replicate 8 2 }) .v) ++ drop n lent) lent
-          → Answered card plan inputs X table lent r after
-      unfolding runPlan runOn lentAfter written decodePlan
-      answer-call r after a b =
-          let run : ranOf r ≡ runPlan card plan inputs X lent = rw (network-is card plan n f before links e l, ← c) a in
-          answered r after run (rw (← run, network-is card plan n f before links e l, ← many card plan n f before links e l blocks carriages c) b)
+    module _ (n f : ℕ) (is : reading ≡ Reading.Network n f) (checked : Checked) (check : checkedOf checked ≡ checkPlan card plan) where
+      pub answer-plan : (g : Refusal) → checked ≡ Checked.Refused g → Answered card plan inputs X table lent (Ran.Refused g) lent
+      unfolding runPlan runOn
+      answer-plan g stop =
+          let run : runPlan card plan inputs X lent ≡ turned (refusalOf g) = rw (network-is card before links reading read n f is, ← check, stop) refl in
+          answered (Ran.Refused g) lent (sym run) (kept (refusalOf g) run)
+
+      module _ (blocks carriages : ℕ) (ok : checked ≡ Checked.Accepted blocks carriages) where
+        pub answer-call : (r : Ran) (after : List ℕ) → ranOf r ≡ checkCall n f inputs X lent (totals blocks carriages)
+            → after ≡ afterAnswer (ranOf r) (decided n X (runBlocks n X table 0 (decodeBlocks n f plan blocks) (record { v = values (held inputs); t = replicate 8 2 }) .v) ++ drop n lent) lent
+            → Answered card plan inputs X table lent r after
+        unfolding runPlan runOn lentAfter written decodePlan
+        answer-call r after a b =
+            let net = network-is card before links reading read n f is in
+            let c = accepted card before links reading read n f is plan checked check blocks carriages ok in
+            let run : ranOf r ≡ runPlan card plan inputs X lent = rw (net, c) a in
+            answered r after run (rw (← run, net, ← many card before links reading read n f is plan checked check blocks carriages ok) b)

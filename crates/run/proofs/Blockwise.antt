@@ -1,5 +1,6 @@
 -- The steps of a block, one after the other, and the blocks of a plan, as the code takes them.
---     block-runs      the six steps' results make up the block's
+--     Half            what holds after three steps; half-runs: the three steps' results make it up
+--     block-runs      with it the other three steps' results make up the block's
 --     block-numbers   how many carriages the block has
 --     Along           how far the blocks are run; blocks-start, blocks-end, and blocks-turn for one block more
 --     block-ready     the next block is ready to run; block-room: it ends inside the plan
@@ -40,32 +41,50 @@ module _ (o : Opening) (s : List ℕ) (h : Opens (o .n) (o .f) s o) where
 -- the six steps
 
 -- v, w and t are the servers with v = 1, those that are sure and those of them with t = 1; the number is that of the step just taken
-pub block-runs : (o : Opening) (s : List ℕ) → Ready o s → (X : ℕ) (table : List ℕ) (number : ℕ) (v w t : ℕ)
-    → (fl sound kept : ℕ) → fl ≡ full (min (o .n) 8) → sound ≡ minus fl (o .fault) → kept ≡ meet (o .side) (o .quorum)
-    → (v1 w1 t1 v2 w2 t2 v3 w3 t3 v4 w4 t4 v5 w5 t5 v6 w6 t6 : ℕ)
-    → v1 ≡ v → worksOf w1 t1 ≡ step1 (o .side) (bitsOf v) (worksOf w t)
-    → v2 ≡ v1
-    → worksOf w2 t2 ≡ gather X table number (map carriageOf (blockAt o s .inward)) (minus (o .quorum) (o .side)) (worksOf w1 t1)
-    → v3 ≡ v2
-    → worksOf w3 t3 ≡ compare X table (number + o .inward) (map carriageOf (blockAt o s .among)) (o .quorum) (worksOf w2 t2)
-    → v4 ≡ v3
-    → worksOf w4 t4 ≡ gather X table (number + o .inward + o .among) (map carriageOf (blockAt o s .outward)) (minus (minus (full (o .n)) (o .fault)) (o .quorum)) (worksOf w3 t3)
-    → bitsOf v5 ≡ step5 sound kept (worksOf w4 t4) (bitsOf v4) → w5 ≡ w4 → t5 ≡ t4
-    → bitsOf v6 ≡ step6 X table (number + o .inward + o .among + o .outward) (reportCarriages (blockAt o s .reports)) (o .fault) (bitsOf v5)
-    → w6 ≡ w5 → t6 ≡ t5
-    → _≡_ {A = Values} (record { v = bitsOf v6; t = worksOf w6 t6 }) (runBlock (o .n) X table number (blockAt o s) (record { v = bitsOf v; t = worksOf w t }))
-unfolding runBlock
-block-runs o s ready X table number v w t fl sound kept e1 e2 e3 v1 w1 t1 v2 w2 t2 v3 w3 t3 v4 w4 t4 v5 w5 t5 v6 w6 t6 a1 b1 a2 b2 a3 b3 a4 b4 a5 b5 c5 a6 b6 c6 =
-    let h = ready .opens in
-    let few = full-few (o .n) fl (ready .few) e1 in
-    let i = length-map (blockAt o s .inward) carriageOf ∙ inward-long o s ready in
-    let a = length-map (blockAt o s .among) carriageOf ∙ among-long o s ready in
-    let u = length-map (blockAt o s .outward) carriageOf ∙ outward-long o s ready in
-    let x = fault-is o s h in
-    let y = side-is o s h in
-    let z = quorum-is o s h in
-    let full-is = few .0 in
-    cc
+module _ (o : Opening) (s : List ℕ) (X : ℕ) (table : List ℕ) (number v w t : ℕ) where
+  -- three steps are taken, and V without F is made
+  pub record Half (sound v3 w3 t3 : ℕ) : Type 0 where
+    pub ready : Ready o s
+    pub sound-is : sound ≡ minus (full (o .n)) (o .fault)
+    pub values-are : v3 ≡ v
+    pub works-are : worksOf w3 t3 ≡ compare X table (number + o .inward) (map carriageOf (blockAt o s .among)) (o .quorum) (gather X table number (map carriageOf (blockAt o s .inward)) (minus (o .quorum) (o .side)) (step1 (o .side) (bitsOf v) (worksOf w t)))
+
+  pub half-runs : (sound v3 w3 t3 : ℕ) → Ready o s → (fl : ℕ) → fl ≡ full (min (o .n) 8) → sound ≡ minus fl (o .fault)
+      → (v2 w2 t2 : ℕ) → v3 ≡ v2
+      → worksOf w3 t3 ≡ compare X table (number + o .inward) (map carriageOf (blockAt o s .among)) (o .quorum) (worksOf w2 t2)
+      → (v1 w1 t1 : ℕ) → v2 ≡ v1
+      → worksOf w2 t2 ≡ gather X table number (map carriageOf (blockAt o s .inward)) (minus (o .quorum) (o .side)) (worksOf w1 t1)
+      → v1 ≡ v → worksOf w1 t1 ≡ step1 (o .side) (bitsOf v) (worksOf w t)
+      → Half sound v3 w3 t3
+  half-runs sound v3 w3 t3 ready fl e1 e2 v2 w2 t2 a3 b3 v1 w1 t1 a2 b2 a1 b1 =
+      record {
+        ready = ready;
+        sound-is = e2 ∙ ap (λ (x : ℕ). minus x (o .fault)) (full-few (o .n) fl (ready .few) e1 .0);
+        values-are = a3 ∙ a2 ∙ a1;
+        works-are = cc;
+      }
+
+  pub block-runs : (v6 w6 t6 v5 w5 t5 : ℕ)
+      → bitsOf v6 ≡ step6 X table (number + o .inward + o .among + o .outward) (reportCarriages (blockAt o s .reports)) (o .fault) (bitsOf v5)
+      → w6 ≡ w5 → t6 ≡ t5
+      → (sound kept v4 w4 t4 : ℕ) → bitsOf v5 ≡ step5 sound kept (worksOf w4 t4) (bitsOf v4) → w5 ≡ w4 → t5 ≡ t4 → kept ≡ meet (o .side) (o .quorum)
+      → (v3 w3 t3 : ℕ) → Half sound v3 w3 t3 → v4 ≡ v3
+      → worksOf w4 t4 ≡ gather X table (number + o .inward + o .among) (map carriageOf (blockAt o s .outward)) (minus (minus (full (o .n)) (o .fault)) (o .quorum)) (worksOf w3 t3)
+      → _≡_ {A = Values} (record { v = bitsOf v6; t = worksOf w6 t6 }) (runBlock (o .n) X table number (blockAt o s) (record { v = bitsOf v; t = worksOf w t }))
+  unfolding runBlock
+  block-runs v6 w6 t6 v5 w5 t5 a6 b6 c6 sound kept v4 w4 t4 a5 b5 c5 e v3 w3 t3 half a4 b4 =
+      let ready = half .ready in
+      let h = ready .opens in
+      let i = length-map (blockAt o s .inward) carriageOf ∙ inward-long o s ready in
+      let a = length-map (blockAt o s .among) carriageOf ∙ among-long o s ready in
+      let u = length-map (blockAt o s .outward) carriageOf ∙ outward-long o s ready in
+      let x = fault-is o s h in
+      let y = side-is o s h in
+      let z = quorum-is o s h in
+      let d = half .sound-is in
+      let f = half .values-are in
+      let g = half .works-are in
+      cc
 
 -- the reports of f + 1 servers each
 report-long : (k : ℕ) (ms : List ℕ) → length (reportFrom k ms) ≡ length ms

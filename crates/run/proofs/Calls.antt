@@ -1,5 +1,7 @@
 -- The answer to a call: its own grounds in their order, and the lent buffer where there is none.
+--     all-bits                       the inputs are bits where the test says so
 --     refuse-length, refuse-bits     ground 12
+--     Standing, standing             ground 12 is not met, nor is the first half of ground 13
 --     refuse-outside, refuse-many    ground 13
 --     refuse-room                    ground 14
 --     passes                         none of them
@@ -21,6 +23,16 @@ use Rattle.rules.specs.Blocks.{Block}
 use Rattle.steps.specs.Steps.{Values, held, values, runBlocks}
 use Rattle.steps.specs.Run.{areBits, checkCall, decided}
 
+-- the test of the inputs was passed
+pub all-bits : (inputs : List ℕ) (b : Bool) → b ≡ areBits inputs → b ≡ true → areBits inputs ≡ true
+all-bits inputs b e t = sym e ∙ t
+
+-- one bit for each server, and each faulty one is one of V
+pub record Standing (n : ℕ) (inputs : List ℕ) (X : ℕ) : Type 0 where
+  pub long : eqb (length inputs) n ≡ true
+  pub bits : areBits inputs ≡ true
+  pub servers : within X (full n) ≡ true
+
 module _ (n f : ℕ) (inputs : List ℕ) (X : ℕ) (lent : List ℕ) (answer : Totals) where
   pub refuse-length : (length inputs ≡ n → ⊥) → turned (call 12) ≡ checkCall n f inputs X lent answer
   unfolding checkCall
@@ -30,30 +42,35 @@ module _ (n f : ℕ) (inputs : List ℕ) (X : ℕ) (lent : List ℕ) (answer : T
   unfolding checkCall
   refuse-bits b e l = cases (eqb (length inputs) n) (λ z. cc) (λ z. cc)
 
-  module _ (whole : length inputs ≡ n) (b : Bool) (eb : b ≡ areBits inputs) (tb : b ≡ true)
-      (few : n ≤ 8) (servers : ℕ) (es : servers ≡ full (min n 8)) (w : Bool) (ew : w ≡ within X servers) where
-    inside : within X (full n) ≡ w
-    inside = ap (λ (s : ℕ). within X s) (sym (full-few n servers few es .0)) ∙ sym ew
-
-    long : eqb (length inputs) n ≡ true
-    long = eq-eqb (length inputs) n whole
-
-    pub refuse-outside : w ≡ false → turned (call 13) ≡ checkCall n f inputs X lent answer
+  module _ (s : Standing n inputs X) where
+    pub refuse-many : f < size X → turned (call 13) ≡ checkCall n f inputs X lent answer
     unfolding checkCall
-    refuse-outside l = let i = inside in let z = long in cc
+    refuse-many l = let i = s .long in let z = s .bits in let y = s .servers in let q = lt-leb (size X) f l in cc
 
-    module _ (tw : w ≡ true) (k : ℕ) (ek : k ≡ size X) where
-      pub refuse-many : f < k → turned (call 13) ≡ checkCall n f inputs X lent answer
+    module _ (k : ℕ) (ek : k ≡ size X) (l : k ≤ f) where
+      pub refuse-room : length lent < n → turned (call 14) ≡ checkCall n f inputs X lent answer
       unfolding checkCall
-      refuse-many l = let i = inside in let z = long in let q = lt-leb (size X) f (rw (← ek) l) in cc
+      refuse-room r = let i = s .long in let z = s .bits in let y = s .servers in let q = le-leb (size X) f (rw (← ek) l) in let p = lt-ltb (length lent) n r in cc
 
-      pub refuse-room : k ≤ f → length lent < n → turned (call 14) ≡ checkCall n f inputs X lent answer
+      pub passes : n ≤ length lent → answer ≡ checkCall n f inputs X lent answer
       unfolding checkCall
-      refuse-room l r = let i = inside in let z = long in let q = le-leb (size X) f (rw (← ek) l) in let p = lt-ltb (length lent) n r in cc
+      passes r = let i = s .long in let z = s .bits in let y = s .servers in let q = le-leb (size X) f (rw (← ek) l) in let p = le-ltb (length lent) n r in cc
 
-      pub passes : k ≤ f → n ≤ length lent → answer ≡ checkCall n f inputs X lent answer
-      unfolding checkCall
-      passes l r = let i = inside in let z = long in let q = le-leb (size X) f (rw (← ek) l) in let p = le-ltb (length lent) n r in cc
+-- the tests of the inputs are passed, and that of the faulty set says w
+module _ (n : ℕ) (inputs : List ℕ) (X : ℕ) (whole : length inputs ≡ n) (b : Bool) (eb : b ≡ areBits inputs) (tb : b ≡ true)
+    (few : n ≤ 8) (servers : ℕ) (es : servers ≡ full (min n 8)) (w : Bool) (ew : w ≡ within X servers) where
+  inside : within X (full n) ≡ w
+  inside = ap (λ (s : ℕ). within X s) (sym (full-few n servers few es .0)) ∙ sym ew
+
+  long : eqb (length inputs) n ≡ true
+  long = eq-eqb (length inputs) n whole
+
+  pub refuse-outside : w ≡ false → (f : ℕ) (lent : List ℕ) (answer : Totals) → turned (call 13) ≡ checkCall n f inputs X lent answer
+  unfolding checkCall
+  refuse-outside l f lent answer = let i = inside in let z = long in cc
+
+  pub standing : w ≡ true → Standing n inputs X
+  standing t = record { long = long; bits = sym eb ∙ tb; servers = inside ∙ t }
 
 -- the lent buffer is what the run leaves
 pub written-is : (n X : ℕ) (table : List ℕ) (bs : List Block) (inputs lent v t v′ t′ out : List ℕ)

@@ -14,7 +14,7 @@ use lib.ListN.{length, getD}
 use lib.Dec.{eqb}
 use borrow.Author.Tests.{eq-eqb, ne-eqb, eqb-true, eqb-false}
 use Rattle.facts.proofs.Bools.{cases}
-use Rattle.sets.specs.Sets.{has, single, minus, size, lowest}
+use Rattle.sets.specs.Sets.{has, single, minus, size, lowest, TableOf}
 use Rattle.sets.proofs.Members.{has-below, minus-small}
 use Rattle.sets.proofs.Counts.{size-le}
 use Rattle.sets.proofs.LowestMember.{lowest-in}
@@ -58,16 +58,26 @@ module _ (X : ℕ) (table : List ℕ) (first : ℕ) (h : ℕ → ℕ) (before : 
     unfolding reported
     telling-done z = t .same against (adds-none against _ (λ i. rw (z, members-none) (nothing (eqb r i))))
 
-    module _ (o : left ≡ 0 → ⊥) (m : ℕ) (a : m ≡ lowest left) where
-      pub telling-eight : m < 8
-      telling-eight = let l = has-below 8 left (lowest left) (t .byte) (lowest-in left (t .byte) o) in omega arith
+    module _ (o : left ≡ 0 → ⊥) (lowests : List ℕ) (all : TableOf lowest lowests) where
+      -- the lowest member left, as the table has it
+      abbrev m : ℕ
+      m = getD lowests left 0
 
-      module _ (one others : ℕ) (b : one ≡ single m) (c : others ≡ minus left one) where
+      least : m ≡ lowest left
+      least = all .entry left (t .byte)
+
+      pub telling-eight : m < 8
+      telling-eight = let a = least in let l = has-below 8 left (lowest left) (t .byte) (lowest-in left (t .byte) o) in omega arith
+
+      module _ (one : ℕ) (b : one ≡ single m) (others : ℕ) (c : others ≡ minus left one) where
         then : members left ≡ m ∷ members others
-        then = members-then left m one others (t .byte) o a b c
+        then = members-then left m one others (t .byte) o least b c
 
         pub telling-less : length (members others) < length (members left)
         telling-less = let e = ap length then in omega arith
+
+        pub telling-fits : first + 8 < 18446744073709551616 → number + 1 < 18446744073709551616
+        telling-fits p = let l = telling-less in let f = t .few in omega arith
 
         module _ (x : ℕ) (q : x ≡ cond (has X m) (message table number) (h m)) (next : Against) (p : Adds against (λ (i : ℕ). cond (eqb r i) (x ∷ []) []) next) where
           told-turn : (i : ℕ) → Told number left i ≡ cond (eqb r i) (x ∷ []) [] ++ Told (number + 1) others i

@@ -1,5 +1,6 @@
--- `run::block::run_block` meets its contract. The six steps' results make up the block's. Assumes nothing.
-use Rattle.run.proofs.Blockwise.{block-runs}
+-- `run::block::run_block` meets its contract. The six steps' results make up the block's: `half` is what holds after three of them, and the lemmas are
+-- those of `Blockwise`, whose premises `search` finds. Assumes nothing.
+use Rattle.run.proofs.Blockwise.{Half, half-runs, block-runs}
 use borrow.Author.Needs.{needs}
 use Rattle.run.proofs.block.run_block.Statement.{statement}
 use Rattle.run.proofs.block.run_block.Tie as tie
@@ -39,11 +40,20 @@ step4-requires c κs = search needs
 step5-requires : tie.Need-step5-requires
 step5-requires c κs = search needs
 
+-- as required of the block (too far back for a search)
 step6-requires : tie.Need-step6-requires
-step6-requires c κs = let p = c .before .before .before .before .before .before .before .before .before .before .pre in (p .0, p .1, p .2)
+step6-requires c κs = c .before .before .before .before .before .before .before .before .before .before .pre
 
+-- three steps are taken, and V without F is made
+half : (c : tie.After-step3) →
+    let a = c .before .before .before .before .before .before .before .before .args in
+    let r = c .step3 .result in
+    Half (a .opening) (a .block .now) (a .faulty) (a .table .now) (a .number) (a .before .v) (a .before .sure) (a .before .t) (c .before .before .before .before .minus .result) (r .v) (r .sure) (r .t)
+half c = search half-runs
+
+-- A∩S, and the other three
 returns : tie.Need-returns
-returns c = block-runs _ _ (c .before .before .before .before .before .before .before .before .before .before .before .pre .0) _ _ _ _ _ _ _ _ _ (c .before .before .before .before .before .before .before .before .full .ensures) (c .before .before .before .before .before .before .before .minus .ensures) (c .before .before .before .before .before .before .meet .ensures) _ _ _ _ _ _ _ _ _ _ _ _ _ _ _ _ _ _ (c .before .before .before .before .before .step1 .ensures .0) (c .before .before .before .before .before .step1 .ensures .1) (c .before .before .before .before .step2 .ensures .0) (c .before .before .before .before .step2 .ensures .1) (c .before .before .before .step3 .ensures .0) (c .before .before .before .step3 .ensures .1) (c .before .before .step4 .ensures .0) (c .before .before .step4 .ensures .1) (c .before .step5 .ensures .0) (c .before .step5 .ensures .1) (c .before .step5 .ensures .2) (c .step6 .ensures .0) (c .step6 .ensures .1) (c .step6 .ensures .2)
+returns c = search (block-runs, half (c .before .before .before), c .before .before .before .before .before .before .meet .ensures)
 
 pub run-block-spec : {M : Type 1} → statement M
 run-block-spec =

@@ -1,7 +1,8 @@
--- `run::call::answer` meets its contract. Each ground of the call is tested in its order, and the blocks are run where none is met. Assumes nothing.
-use mathlib.Core.Path.{refl, sym, _∙_}
+-- `run::call::answer` meets its contract. Each answer is one ground of the call (refuse-..), or none of them (`passes`), a lemma of `Calls` whose
+-- premises, the tests on the way to that return, `search` finds. Assumes nothing.
+use mathlib.Core.Path.{refl}
 use native.Mathlib.Omega.{arith}
-use Rattle.run.proofs.Calls.{refuse-length, refuse-bits, refuse-outside, refuse-many, refuse-room, passes, written-is}
+use Rattle.run.proofs.Calls.{all-bits, refuse-length, refuse-bits, refuse-outside, standing, refuse-many, refuse-room, passes, written-is}
 use borrow.Author.Needs.{needs}
 use Rattle.run.proofs.call.answer.Statement.{statement}
 use Rattle.run.proofs.call.answer.Tie as tie
@@ -15,8 +16,9 @@ use Rattle.sets.proofs.full.Reads as full-reads
 use Rattle.sets.proofs.size.Reads as size-reads
 use Rattle.sets.proofs.within.Reads as within-reads
 
+-- not one input for each server
 returns : tie.Need-returns
-returns c = (refuse-length _ _ _ _ _ _ (c .if1 .taken), refl)
+returns c = search refuse-length
 
 are-bits-requires : tie.Need-are-bits-requires
 are-bits-requires c κs = search needs
@@ -30,14 +32,17 @@ within-requires c κs = search needs
 size-requires : tie.Need-size-requires
 size-requires c κs = search needs
 
+-- more than f servers are faulty
 returns-2 : tie.Need-returns-2
-returns-2 c = (refuse-many _ _ _ _ _ _ (c .before .before .before .before .before .before .before .if1 .left) _ (c .before .before .before .before .before .before .are-bits .ensures) (c .before .before .before .before .before .if2 .taken) (c .before .before .before .before .before .before .before .before .before .before .before .before .pre .0) _ (c .before .before .before .before .full .ensures) _ (c .before .before .before .within .ensures) (c .before .before .if3 .taken) _ (c .before .size .ensures) (omega arith), refl)
+returns-2 c = (refuse-many _ _ _ _ _ _ (search standing) (omega arith), refl)
 
+-- the lent buffer has no room for n bytes
 returns-3 : tie.Need-returns-3
-returns-3 c = (refuse-room _ _ _ _ _ _ (c .before .before .before .before .before .before .before .before .if1 .left) _ (c .before .before .before .before .before .before .before .are-bits .ensures) (c .before .before .before .before .before .before .if2 .taken) (c .before .before .before .before .before .before .before .before .before .before .before .before .before .pre .0) _ (c .before .before .before .before .before .full .ensures) _ (c .before .before .before .before .within .ensures) (c .before .before .before .if3 .taken) _ (c .before .before .size .ensures) (omega arith) (omega arith), refl)
+returns-3 c = search (standing, refuse-room)
 
+-- at most eight inputs, and each is a bit
 first-values-requires : tie.Need-first-values-requires
-first-values-requires c κs = (search needs, sym (c .before .before .before .before .before .before .before .are-bits .ensures) ∙ c .before .before .before .before .before .before .if2 .taken)
+first-values-requires c κs = search (needs, all-bits)
 
 run-blocks-requires : tie.Need-run-blocks-requires
 run-blocks-requires c κs = search needs
@@ -48,14 +53,17 @@ write-requires c κs = search needs
 same-length : tie.Need-same-length
 same-length c = search needs
 
+-- no ground is met, and the lent buffer is what the run leaves
 returns-4 : tie.Need-returns-4
-returns-4 c = (passes _ _ _ _ _ _ (c .before .before .before .before .before .before .before .before .before .before .before .before .before .before .if1 .left) _ (c .before .before .before .before .before .before .before .before .before .before .before .before .before .are-bits .ensures) (c .before .before .before .before .before .before .before .before .before .before .before .before .if2 .taken) (c .before .before .before .before .before .before .before .before .before .before .before .before .before .before .before .before .before .before .before .pre .0) _ (c .before .before .before .before .before .before .before .before .before .before .before .full .ensures) _ (c .before .before .before .before .before .before .before .before .before .before .within .ensures) (c .before .before .before .before .before .before .before .before .before .if3 .taken) _ (c .before .before .before .before .before .before .before .before .size .ensures) (omega arith) (omega arith), written-is _ _ _ _ (c .before .before .before .before .before .before .before .before .before .before .before .before .before .before .before .before .before .before .before .args .inputs .now) _ _ _ _ _ _ (c .before .before .before .before .before .first-values .ensures .0) (c .before .before .before .before .before .first-values .ensures .1) (c .before .before .before .before .run-blocks .ensures) (c .before .before .write .ensures))
+returns-4 c = search (standing, passes, written-is)
 
+-- a faulty server is none of V
 returns-5 : tie.Need-returns-5
-returns-5 c = (refuse-outside _ _ _ _ _ _ (c .before .before .before .before .before .if1 .left) _ (c .before .before .before .before .are-bits .ensures) (c .before .before .before .if2 .taken) (c .before .before .before .before .before .before .before .before .before .before .pre .0) _ (c .before .before .full .ensures) _ (c .before .within .ensures) (c .if3 .left), refl)
+returns-5 c = search refuse-outside
 
+-- an input is no bit
 returns-6 : tie.Need-returns-6
-returns-6 c = (refuse-bits _ _ _ _ _ _ _ (c .before .are-bits .ensures) (c .if2 .left), refl)
+returns-6 c = search refuse-bits
 
 pub answer-spec : {M : Type 1} → statement M
 answer-spec =

@@ -1,9 +1,6 @@
 -- `run::call::run` meets its contract. The card's refusal comes first, then the plan's, then the call's; what it answers is the definition's, so
--- demand 3 holds of it. Assumes nothing.
-use mathlib.Core.Path.{sym, ap, _∙_}
-use Rattle.network.specs.Answers.{readingOf}
-use Rattle.plan.specs.Answers.{checkedOf}
-use Rattle.run.proofs.Answering.{answer-card, answer-plan, call-ready, answer-call}
+-- demand 3 holds of it. Each answer is one lemma of `Answering`, whose premises `search` finds. Assumes nothing.
+use Rattle.run.proofs.Answering.{call-few, call-bound, call-short, call-runs, answer-card, answer-plan, answer-call}
 use borrow.Author.Needs.{needs}
 use Rattle.run.proofs.call.run.Statement.{statement}
 use Rattle.run.proofs.call.run.Tie as tie
@@ -31,20 +28,24 @@ enum-known-checked c = search needs
 enum-known-checked-2 : tie.Need-enum-known-checked-2
 enum-known-checked-2 c = search needs
 
+-- what is known of an accepted plan
 answer-requires : tie.Need-answer-requires
-answer-requires c κs = call-ready _ _ _ _ _ _ (sym (c .before .before .before .before .before .before .before .before .read-card .ensures .reading) ∙ ap readingOf (c .before .before .before .before .before .before .reading2 .given .1)) (c .before .before .before .before .before .before .before .before .read-card .ensures .links) _ _ (sym (ap checkedOf (c .before .before .checked2 .given .1)) ∙ c .before .before .before .before .check-plan .ensures)
+answer-requires c κs = search (call-few, call-bound, call-short, call-runs)
 
+-- the card is refused
 returns : tie.Need-returns
-returns c = answer-card _ _ _ _ _ _ _ (sym (c .before .before .before .read-card .ensures .reading) ∙ ap readingOf (c .before .reading .given .1))
+returns c = search answer-card
 
+-- the plan is refused
 returns-2 : tie.Need-returns-2
-returns-2 c = answer-plan _ _ _ _ _ _ _ _ _ _ (sym (c .before .before .before .before .before .before .before .read-card .ensures .reading) ∙ ap readingOf (c .before .before .before .before .before .reading2 .given .1)) (c .before .before .before .before .before .before .before .read-card .ensures .links) _ (sym (ap checkedOf (c .before .checked .given .1)) ∙ c .before .before .before .check-plan .ensures)
+returns-2 c = search answer-plan
 
 same-length : tie.Need-same-length
 same-length c = search needs
 
+-- the plan is accepted, and the call is answered
 returns-3 : tie.Need-returns-3
-returns-3 c = answer-call _ _ _ _ _ _ _ _ _ _ (sym (c .before .before .before .before .before .before .before .before .before .before .before .read-card .ensures .reading) ∙ ap readingOf (c .before .before .before .before .before .before .before .before .before .reading2 .given .1)) (c .before .before .before .before .before .before .before .before .before .before .before .read-card .ensures .links) _ _ (sym (ap checkedOf (c .before .before .before .before .before .checked2 .given .1)) ∙ c .before .before .before .before .before .before .before .check-plan .ensures) _ _ (c .before .before .answer .ensures .0) (c .before .before .answer .ensures .1)
+returns-3 c = search answer-call
 
 pub run-spec : {M : Type 1} → statement M
 run-spec =

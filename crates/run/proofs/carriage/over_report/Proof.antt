@@ -1,12 +1,11 @@
--- `run::carriage::over_report` meets its contract. The invariant of its loop: with what is left of the reporters, what is held becomes that of the whole
--- (`Reported`). The measure is how many reporters are left. Assumes nothing.
+-- `run::carriage::over_report` meets its contract. The invariant of its loop, `Telling`: with what is left of the reporters, what is held becomes that of
+-- the whole. The measure is how many reporters are left. Each need of a turn is one lemma of `Reported`, whose premises `search` finds. Assumes nothing.
 use lib.ListN.{length}
 use borrow.Author.Needs.{needs}
-use native.Mathlib.Omega.{arith}
 use Rattle.plan.specs.Members.{members}
 use Rattle.steps.specs.Steps.{held}
 use Rattle.run.specs.Speaking.{bitsOf}
-use Rattle.run.proofs.Reported.{Telling, telling-starts, telling-eight, telling-less, telling-goes, telling-done}
+use Rattle.run.proofs.Reported.{Telling, telling-starts, telling-eight, telling-less, telling-fits, telling-goes, telling-done}
 use Rattle.run.proofs.carriage.over_report.Statement.{statement}
 use Rattle.run.proofs.carriage.over_report.Tie as tie
 use Rattle.run.proofs.carriage.over_report.Reads as reads
@@ -24,7 +23,7 @@ abbrev μ-loop : tie.MeasureT-loop
 μ-loop faulty table first ones receiver reporters lowests zero₀ one₀ number₀ left₀ zero one number left = length (members left)
 
 loop-holds : tie.Need-loop-holds Inv-loop μ-loop
-loop-holds c = telling-starts _ _ _ _ _ _ _ (search needs)
+loop-holds c = search (needs, telling-starts)
 
 cast-m : tie.Need-cast-m Inv-loop μ-loop
 cast-m c = search needs
@@ -38,23 +37,28 @@ single-requires c κs = search needs
 minus-requires : tie.Need-minus-requires Inv-loop μ-loop
 minus-requires c κs = search needs
 
+-- the lowest member left is one of eight
 reported-requires : tie.Need-reported-requires Inv-loop μ-loop
-reported-requires c κs = telling-eight _ _ _ _ _ _ _ _ _ _ (c .before .before .before .before .loop .inv) (c .before .before .before .loop-test .taken) _ (c .before .before .before .before .before .before .pre .2 .entry (c .before .before .before .before .loop .left) (c .before .before .before .before .loop .inv .byte))
+reported-requires c κs = search telling-eight
 
 spoken-requires : tie.Need-spoken-requires Inv-loop μ-loop
-spoken-requires c κs = c .before .before .before .before .before .before .before .pre .1
+spoken-requires c κs = search needs
 
+-- the numbers stay below the first and eight
 add-number : tie.Need-add-number Inv-loop μ-loop
-add-number c = let l = telling-less _ _ _ _ _ _ _ _ _ _ (c .before .before .before .before .before .before .loop .inv) (c .before .before .before .before .before .loop-test .taken) _ (c .before .before .before .before .before .before .before .before .pre .2 .entry (c .before .before .before .before .before .before .loop .left) (c .before .before .before .before .before .before .loop .inv .byte)) _ _ (c .before .before .before .single .ensures) (c .before .before .minus .ensures) in let f = c .before .before .before .before .before .before .loop .inv .few in let p = c .before .before .before .before .before .before .before .before .pre .0 in omega arith
+add-number c = search telling-fits
 
+-- one reporter less is left
 loop-less : tie.Need-loop-less Inv-loop μ-loop
-loop-less c = telling-less _ _ _ _ _ _ _ _ _ _ (c .before .before .before .before .before .before .loop .inv) (c .before .before .before .before .before .loop-test .taken) _ (c .before .before .before .before .before .before .before .before .pre .2 .entry (c .before .before .before .before .before .before .loop .left) (c .before .before .before .before .before .before .loop .inv .byte)) _ _ (c .before .before .before .single .ensures) (c .before .before .minus .ensures)
+loop-less c = search telling-less
 
+-- its report is told
 loop-again : tie.Need-loop-again Inv-loop μ-loop
-loop-again c = telling-goes _ _ _ _ _ _ _ _ _ _ (c .before .before .before .before .before .before .loop .inv) (c .before .before .before .before .before .loop-test .taken) _ (c .before .before .before .before .before .before .before .before .pre .2 .entry (c .before .before .before .before .before .before .loop .left) (c .before .before .before .before .before .before .loop .inv .byte)) _ _ (c .before .before .before .single .ensures) (c .before .before .minus .ensures) _ (c .before .reported .ensures) _ (c .spoken .ensures)
+loop-again c = search telling-goes
 
+-- no reporter is left
 returns : tie.Need-returns Inv-loop μ-loop
-returns c = telling-done _ _ _ _ _ _ _ _ _ _ (c .before .loop .inv) (search needs)
+returns c = telling-done _ _ _ _ _ _ _ _ _ _ (c .before .loop .inv) (c .loop-test .left)
 
 pub over-report-spec : {M : Type 1} → statement M
 over-report-spec =
