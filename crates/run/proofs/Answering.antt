@@ -11,7 +11,7 @@ use lib.ListN.{length, drop, replicate}
 use Rattle.refusal.specs.Refused.{Refused, refusalOf}
 use Rattle.refusal.specs.declared.Refusal.{Refusal}
 use Rattle.network.specs.Links.{Links}
-use Rattle.network.specs.Card.{network, refused, head, headOf, readCard, linksAfter}
+use Rattle.network.specs.Card.{network, readCard}
 use Rattle.network.specs.Answers.{readingOf}
 use Rattle.network.specs.Answers as Reader
 use Rattle.network.specs.declared.card.Reading.{Reading}

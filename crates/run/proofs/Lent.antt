@@ -14,7 +14,7 @@ use lib.ListN.{length, getD, set, drop, replicate, length-set, drop-of-length-le
 use lib.Seq.{drop-cons, set-at, append-snoc}
 use lib.Dec.{eqb, ltb}
 use borrow.Author.Tests.{lt-ltb, le-ltb, eq-eqb, ne-eqb, eqb-true, eqb-false, ltb-true, ltb-false}
-use Rattle.facts.proofs.Bools.{cases, and-left, and-right}
+use Rattle.facts.proofs.Bools.{cases}
 use Rattle.sets.specs.Sets.{has, single, union}
 use Rattle.sets.proofs.Members.{has-empty, has-union, has-single}
 use Rattle.steps.specs.Steps.{held, valuesFrom, values}

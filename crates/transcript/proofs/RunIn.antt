@@ -1,4 +1,4 @@
--- run.in cut into its parts: what a part that is not there, cut short or whole is.
+-- run.in cut into its parts: what a part that is whole, cut short or not there is.
 -- Assumes nothing.
 use mathlib.Core.Path.{_≡_, refl, sym, ap, _∙_}
 use mathlib.Core.List.{List, []}
@@ -18,22 +18,22 @@ module _ (l : List ℕ) where
   rest k at h = let e = length-drop at l in take-all k (drop at l) (omega arith)
 
   module _ (n : ℕ) where
-    pub inputs-none : length l ≡ 0 → [] ≡ inputsOf n l
+    pub inputs-whole : take (n + 1 - 1) (drop 1 l) ≡ inputsOf n l
     unfolding inputsOf
-    inputs-none h = sym (ap (take n) (drop-of-length-le l {i = 1} (omega arith)) ∙ take-nil n)
+    inputs-whole = let e : n + 1 - 1 ≡ n = omega arith in rw e refl
 
     pub inputs-short : length l < n + 1 → take (length l - 1) (drop 1 l) ≡ inputsOf n l
     unfolding inputsOf
     inputs-short h = rest (length l - 1) 1 (omega arith) ∙ sym (rest n 1 (omega arith))
 
-    pub inputs-whole : take (n + 1 - 1) (drop 1 l) ≡ inputsOf n l
+    pub inputs-none : length l ≡ 0 → [] ≡ inputsOf n l
     unfolding inputsOf
-    inputs-whole = let e : n + 1 - 1 ≡ n = omega arith in rw e refl
-
-    pub table-none : length l < n + 1 → [] ≡ tableOf n l
-    unfolding tableOf
-    table-none h = sym (drop-of-length-le l {i = 1 + n} (omega arith))
+    inputs-none h = sym (ap (take n) (drop-of-length-le l {i = 1} (omega arith)) ∙ take-nil n)
 
     pub table-whole : take (length l - (n + 1)) (drop (n + 1) l) ≡ tableOf n l
     unfolding tableOf
     table-whole = let e : n + 1 ≡ 1 + n = omega arith in rest (length l - (n + 1)) (n + 1) (omega arith) ∙ ap (λ (k : ℕ). drop k l) e
+
+    pub table-none : length l < n + 1 → [] ≡ tableOf n l
+    unfolding tableOf
+    table-none h = sym (drop-of-length-le l {i = 1 + n} (omega arith))
