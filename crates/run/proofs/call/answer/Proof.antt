@@ -38,7 +38,7 @@ returns-2 c = (refuse-many _ _ _ _ _ _ (search standing) (omega arith), refl)
 
 -- the lent buffer has no room for n bytes
 returns-3 : tie.Need-returns-3
-returns-3 c = search (standing, refuse-room)
+returns-3 c = (refuse-room _ _ _ _ _ _ (search standing) _ (c .before .before .size .ensures) (omega arith) (omega arith), refl)
 
 -- at most eight inputs, and each is a bit
 first-values-requires : tie.Need-first-values-requires
@@ -55,7 +55,7 @@ same-length c = search needs
 
 -- no ground is met, and the lent buffer is what the run leaves
 returns-4 : tie.Need-returns-4
-returns-4 c = search (standing, passes, written-is)
+returns-4 c = (search (standing, passes), search written-is)
 
 -- a faulty server is none of V
 returns-5 : tie.Need-returns-5

@@ -72,7 +72,9 @@ loop-less c = search needs
 
 -- what is left after one route more
 loop-again : tie.Need-loop-again Inv-loop μ-loop
-loop-again c = search (needs, arrivals-go)
+loop-again c =
+    let e = c .before .before .before .before .walked .ensures in
+    (arrivals-go (c .before .before .before .before .before .before .before .loop .inv .0) (omega arith) _ (e .0) (e .2) _ (e .3) (e .1) _ (c .before .before .brought .ensures) _ (c .spoken .ensures), search needs, search needs)
 
 cast-result : tie.Need-cast-result Inv-loop μ-loop
 cast-result c = search needs
