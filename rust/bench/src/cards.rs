@@ -1,6 +1,7 @@
 //! The cards to be timed: all of eight servers and two faults, the largest networks
 //! there are.
 
+use compare::converted;
 use generate::{all_links, card_of, complete_card};
 use reference::{Refusal, Split};
 
@@ -17,7 +18,9 @@ pub struct Case {
 impl Case {
     /// Times of wrong answers would be worth nothing.
     pub fn assert_answers(&self) {
-        let library = agreement::split_test(&self.card);
+        let library = agreement::split_test(&self.card)
+            .map(|split| split.map(converted::split))
+            .map_err(converted::refusal);
         assert_eq!(library, self.split, "library on {}", self.name);
         let reference = reference::split_test(&self.card);
         assert_eq!(reference, self.split, "reference on {}", self.name);

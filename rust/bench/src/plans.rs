@@ -1,6 +1,7 @@
 //! The plans to be timed: accepted ones for complete networks, and one that is
 //! refused at the last command before its end.
 
+use compare::converted;
 use generate::{complete_card, places, plan, Rng};
 use reference::{Refusal, Totals};
 
@@ -19,6 +20,7 @@ impl Case {
     /// Times of wrong answers would be worth nothing.
     pub fn assert_answers(&self) {
         let library = agreement::check_plan(&self.card, &self.plan);
+        let library = converted::totals(library);
         assert_eq!(library, self.answer, "library on {}", self.name);
         let reference = reference::check_plan(&self.card, &self.plan);
         assert_eq!(reference, self.answer, "reference on {}", self.name);

@@ -2,11 +2,15 @@
 //! servers as there may be and a table of random bits.
 
 use crate::plans::planned;
+use agreement::ServerSet;
+use compare::converted;
 use generate::Rng;
 use reference::{Refusal, Totals};
 
-/// What a run answers, and the lent buffer after it.
-type Ran = (Result<Totals, Refusal>, [u8; 8]);
+/// What a run of the library answers, and the lent buffer after it.
+type OfLibrary = (Result<agreement::Totals, agreement::Refusal>, [u8; 8]);
+/// The same of a run of the reference.
+type OfReference = (Result<Totals, Refusal>, [u8; 8]);
 
 /// What the lent bytes start out as.
 const UNTOUCHED: u8 = 9;
@@ -27,24 +31,26 @@ impl Case {
     /// Times of wrong answers would be worth nothing.
     pub fn assert_answers(&self) {
         let expected = (Ok(self.totals), self.lent);
-        assert_eq!(self.library(), expected, "library on {}", self.name);
+        let (answer, lent) = self.library();
+        let library = (converted::totals(answer), lent);
+        assert_eq!(library, expected, "library on {}", self.name);
         assert_eq!(self.reference(), expected, "reference on {}", self.name);
     }
 
-    pub fn library(&self) -> Ran {
+    pub fn library(&self) -> OfLibrary {
         let mut lent = [UNTOUCHED; 8];
         let answer = agreement::run(
             &self.card,
             &self.plan,
             &self.inputs,
-            self.faulty,
+            ServerSet::from_bits(self.faulty),
             &self.table,
             &mut lent,
         );
         (answer, lent)
     }
 
-    pub fn reference(&self) -> Ran {
+    pub fn reference(&self) -> OfReference {
         let mut lent = [UNTOUCHED; 8];
         let answer = reference::run(
             &self.card,

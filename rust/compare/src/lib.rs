@@ -21,6 +21,7 @@
 #![forbid(unsafe_code)]
 
 pub mod cards;
+pub mod converted;
 pub mod plans;
 pub mod rehearsals;
 pub mod runs;

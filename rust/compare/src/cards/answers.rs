@@ -1,5 +1,6 @@
 //! What an implementation answers on one card, and how that is written down.
 
+use crate::converted;
 use crate::text::plain_refusal;
 use reference::{Network, Refusal, Split};
 use std::fmt::{self, Display, Formatter};
@@ -14,8 +15,12 @@ pub(super) struct Answers {
 impl Answers {
     pub fn of_library(card: &[u8]) -> Answers {
         Answers {
-            read: agreement::read_card(card).map(with_marks),
-            split: agreement::split_test(card),
+            read: agreement::read_card(card)
+                .map(converted::network)
+                .map_err(converted::refusal),
+            split: agreement::split_test(card)
+                .map(|split| split.map(converted::split))
+                .map_err(converted::refusal),
         }
     }
 
@@ -43,14 +48,6 @@ impl Answers {
             Err(refusal) => plain_refusal(refusal),
         }
     }
-}
-
-/// The library's network with a mark for each pair of the eight servers that there can
-/// be, as the reference has it: a link that cannot be is a difference too.
-fn with_marks(network: agreement::Network) -> Network {
-    let agreement::Network { n, f, rows } = network;
-    let links = rows.map(|row| std::array::from_fn(|v| row >> v & 1 == 1));
-    Network { n, f, links }
 }
 
 impl Display for Answers {

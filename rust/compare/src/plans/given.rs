@@ -1,6 +1,7 @@
 //! The cases of `data/plans.tsv`, whose answers neither implementation made.
 
 use super::tally::{plain, Answer, Tally};
+use crate::converted;
 use crate::text::{cases, hex, hex_beginning, unhex};
 
 const PLANS: &str = include_str!("../../data/plans.tsv");
@@ -20,7 +21,7 @@ pub fn given_plans() -> Tally {
     let mut tally = Tally::default();
     for case in cases(PLANS).map(parse) {
         let library = agreement::check_plan(&case.card, &case.plan);
-        check("library", &case, library);
+        check("library", &case, converted::totals(library));
         let reference = reference::check_plan(&case.card, &case.plan);
         check("reference", &case, reference);
         // They are alike by now; this counts.

@@ -1,5 +1,6 @@
 //! Comparing the two implementations on one plan, and counting what they answer.
 
+use crate::converted;
 use crate::text::{hex, hex_beginning, plain_refusal};
 use generate::DAMAGES;
 use reference::{Refusal, Totals};
@@ -48,7 +49,7 @@ impl Tally {
     ///
     /// Panics if they differ; `made_by` then says how to get the plan again.
     pub(super) fn compare(&mut self, card: &[u8], plan: &[u8], made_by: Arguments) -> Answer {
-        let library = agreement::check_plan(card, plan);
+        let library = converted::totals(agreement::check_plan(card, plan));
         let reference = reference::check_plan(card, plan);
         if library != reference {
             panic!(

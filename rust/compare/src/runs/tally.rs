@@ -1,6 +1,8 @@
 //! Comparing the two implementations on one call, and counting what they answer.
 
+use crate::converted;
 use crate::text::{hex, hex_beginning, plain_refusal};
+use agreement::ServerSet;
 use reference::{Refusal, Totals};
 use std::fmt::{self, Arguments, Display, Formatter};
 
@@ -30,7 +32,10 @@ pub(super) struct Call<'a> {
 
 impl Call<'_> {
     pub fn of_library(&self) -> Outcome {
-        self.outcome(agreement::run)
+        self.outcome(|card, plan, inputs, faulty, table, lent| {
+            let faulty = ServerSet::from_bits(faulty);
+            converted::totals(agreement::run(card, plan, inputs, faulty, table, lent))
+        })
     }
 
     pub fn of_reference(&self) -> Outcome {

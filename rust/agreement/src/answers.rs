@@ -1,0 +1,228 @@
+//! What the words of an answer say, in the types of this crate. Each function answers
+//! with `None` for words that the library's contract rules out.
+
+use crate::{CallGround, CardGround, Network, PlanGround, Refusal, ServerSet, Split, Totals};
+
+/// Lent answers start out as this, which no answer holds: a word that the library left
+/// unwritten would be noticed.
+pub const UNWRITTEN: u64 = u64::MAX;
+
+/// What the first word of an answer says.
+const ANSWERED: u64 = 0;
+const BAD_SPLIT: u64 = 1;
+const REFUSED: u64 = 2;
+
+/// Whose fault a refusal is.
+const OF_CARD: u64 = 0;
+const OF_PLAN: u64 = 1;
+const OF_CALL: u64 = 2;
+
+/// No network has more blocks than one of eight servers and two faults.
+const MOST_BLOCKS: u64 = 1_499;
+/// A plan's bytes at most, and so its carriages: none takes less than a byte.
+const PLAN_LIMIT: u64 = 1_048_576;
+
+pub fn network(answer: &[u64; 12]) -> Option<Network> {
+    let [ANSWERED, n @ 2..=8, f @ 0..=2, 0, words @ ..] = *answer else {
+        return None;
+    };
+    let mut rows = [ServerSet::EMPTY; 8];
+    for (row, word) in rows.iter_mut().zip(words) {
+        *row = set(word)?;
+    }
+    Some(Network {
+        n: n as u8,
+        f: f as u8,
+        rows,
+    })
+}
+
+/// The refusal of the card reader.
+pub fn card_refusal(answer: &[u64; 12]) -> Option<Refusal> {
+    match *answer {
+        [REFUSED, OF_CARD, number, place, 0, 0, 0, 0, 0, 0, 0, 0] => of_card(number, place),
+        _ => None,
+    }
+}
+
+pub fn split_or_refusal(answer: [u64; 5]) -> Option<Result<Option<Split>, Refusal>> {
+    match answer {
+        [ANSWERED, 0, 0, 0, 0] => Some(Ok(None)),
+        [BAD_SPLIT, f, l, c, r] => Some(Ok(Some(Split {
+            f: set(f)?,
+            l: set(l)?,
+            c: set(c)?,
+            r: set(r)?,
+        }))),
+        [REFUSED, OF_CARD, number, place, 0] => Some(Err(of_card(number, place)?)),
+        _ => None,
+    }
+}
+
+/// The answer of the plan check.
+pub fn totals_or_refusal(answer: [u64; 4]) -> Option<Result<Totals, Refusal>> {
+    match answer {
+        [ANSWERED, blocks @ 1..=MOST_BLOCKS, carriages @ 1..=PLAN_LIMIT, 0] => Some(Ok(Totals {
+            blocks: usize::try_from(blocks).ok()?,
+            carriages: usize::try_from(carriages).ok()?,
+        })),
+        [REFUSED, OF_CARD, number, place] => Some(Err(of_card(number, place)?)),
+        [REFUSED, OF_PLAN, number, place] => Some(Err(Refusal::Plan {
+            ground: PlanGround::of_number(number)?,
+            place: usize::try_from(place).ok()?,
+        })),
+        _ => None,
+    }
+}
+
+/// The answer of the run.
+pub fn ran_or_refusal(answer: [u64; 4]) -> Option<Result<Totals, Refusal>> {
+    match answer {
+        [REFUSED, OF_CALL, number, 0] => Some(Err(Refusal::Call {
+            ground: CallGround::of_number(number)?,
+        })),
+        // Else it says what the plan check would say.
+        _ => totals_or_refusal(answer),
+    }
+}
+
+fn of_card(number: u64, place: u64) -> Option<Refusal> {
+    Some(Refusal::Card {
+        ground: CardGround::of_number(number)?,
+        place: usize::try_from(place).ok()?,
+    })
+}
+
+fn set(word: u64) -> Option<ServerSet> {
+    u8::try_from(word).ok().map(ServerSet::from_bits)
+}
+
+#[cfg(test)]
+mod tests {
+    use super::*;
+
+    const REPEATED: Refusal = Refusal::Card {
+        ground: CardGround::Repeated,
+        place: 87,
+    };
+    const NOT_DUE: Refusal = Refusal::Plan {
+        ground: PlanGround::NotDue,
+        place: 4,
+    };
+    const FAULT_SET: Refusal = Refusal::Call {
+        ground: CallGround::FaultSet,
+    };
+
+    #[test]
+    fn words_of_a_card_become_its_network_or_refusal() {
+        let accepted = [0, 3, 1, 0, 6, 0, 3, 0, 0, 0, 0, 0];
+        let expected = Network {
+            n: 3,
+            f: 1,
+            rows: [6, 0, 3, 0, 0, 0, 0, 0].map(ServerSet::from_bits),
+        };
+        assert_eq!(network(&accepted), Some(expected));
+        assert_eq!(card_refusal(&accepted), None);
+        let refused = [2, 0, 6, 87, 0, 0, 0, 0, 0, 0, 0, 0];
+        assert_eq!(network(&refused), None);
+        assert_eq!(card_refusal(&refused), Some(REPEATED));
+    }
+
+    #[test]
+    fn words_of_a_split_become_the_answers_they_stand_for() {
+        let [f, l, c, r] = [1, 2, 0, 4].map(ServerSet::from_bits);
+        let bad = Split { f, l, c, r };
+        assert_eq!(split_or_refusal([0; 5]), Some(Ok(None)));
+        assert_eq!(split_or_refusal([1, 1, 2, 0, 4]), Some(Ok(Some(bad))));
+        assert_eq!(split_or_refusal([2, 0, 6, 87, 0]), Some(Err(REPEATED)));
+    }
+
+    #[test]
+    fn words_of_a_plan_or_a_run_become_the_answers_they_stand_for() {
+        let totals = Totals {
+            blocks: 19,
+            carriages: 230,
+        };
+        assert_eq!(totals_or_refusal([0, 19, 230, 0]), Some(Ok(totals)));
+        assert_eq!(totals_or_refusal([2, 0, 6, 87]), Some(Err(REPEATED)));
+        assert_eq!(totals_or_refusal([2, 1, 7, 4]), Some(Err(NOT_DUE)));
+        assert_eq!(ran_or_refusal([0, 19, 230, 0]), Some(Ok(totals)));
+        assert_eq!(ran_or_refusal([2, 0, 6, 87]), Some(Err(REPEATED)));
+        assert_eq!(ran_or_refusal([2, 1, 7, 4]), Some(Err(NOT_DUE)));
+        assert_eq!(ran_or_refusal([2, 2, 13, 0]), Some(Err(FAULT_SET)));
+    }
+
+    #[test]
+    fn words_that_are_no_answer_of_the_card_reader_are_noticed() {
+        for answer in [
+            [UNWRITTEN; 12],
+            [0, 3, 1, UNWRITTEN, 0, 0, 0, 0, 0, 0, 0, 0],
+            [0, 1, 0, 0, 0, 0, 0, 0, 0, 0, 0, 0],
+            [0, 9, 0, 0, 0, 0, 0, 0, 0, 0, 0, 0],
+            [0, 2, 3, 0, 0, 0, 0, 0, 0, 0, 0, 0],
+            [0, 2, 0, 0, 256, 0, 0, 0, 0, 0, 0, 0],
+            [0, 2, 0, 0, 2, 1, 0, 0, 0, 0, 0, UNWRITTEN],
+            [1, 2, 0, 0, 0, 0, 0, 0, 0, 0, 0, 0],
+            [2, 1, 2, 87, 0, 0, 0, 0, 0, 0, 0, 0],
+            [2, 3, 6, 87, 0, 0, 0, 0, 0, 0, 0, 0],
+            [2, 0, 7, 87, 0, 0, 0, 0, 0, 0, 0, 0],
+            [2, 0, 256, 87, 0, 0, 0, 0, 0, 0, 0, 0],
+            [2, 0, 6, 87, 2, 0, 0, 0, 0, 0, 0, 0],
+            [2, 0, 6, 87, 0, 0, 0, 0, 0, 0, 0, UNWRITTEN],
+        ] {
+            assert_eq!(network(&answer), None, "{answer:?}");
+            assert_eq!(card_refusal(&answer), None, "{answer:?}");
+        }
+    }
+
+    #[test]
+    fn words_that_are_no_answer_of_the_split_test_are_noticed() {
+        for answer in [
+            [UNWRITTEN; 5],
+            [0, 0, 0, 0, UNWRITTEN],
+            [0, 0, 0, 0, 1],
+            [1, 0, 1, 0, 256],
+            [2, 0, 6, 87, 1],
+            [2, 1, 2, 87, 0],
+            [3, 0, 0, 0, 0],
+        ] {
+            assert_eq!(split_or_refusal(answer), None, "{answer:?}");
+        }
+    }
+
+    #[test]
+    fn words_that_are_no_answer_of_the_plan_check_are_noticed() {
+        for answer in [
+            [UNWRITTEN; 4],
+            [0, 1, UNWRITTEN, 0],
+            [0, UNWRITTEN, 1, 0],
+            [0, 0, 1, 0],
+            [0, 1, 0, 0],
+            [0, 1, 1, 1],
+            [1, 1, 1, 0],
+            [2, 2, 13, 0],
+            [2, 3, 7, 4],
+            [2, 1, 6, 4],
+            [2, 1, 256, 4],
+        ] {
+            assert_eq!(totals_or_refusal(answer), None, "{answer:?}");
+        }
+    }
+
+    #[test]
+    fn words_that_are_no_answer_of_the_run_are_noticed() {
+        for answer in [
+            [UNWRITTEN; 4],
+            [0, 0, 1, 0],
+            [0, 1, 1, 1],
+            [1, 1, 1, 0],
+            [2, 2, 11, 0],
+            [2, 2, 15, 0],
+            [2, 2, 13, 1],
+            [2, 2, 13, UNWRITTEN],
+            [2, 3, 13, 0],
+        ] {
+            assert_eq!(ran_or_refusal(answer), None, "{answer:?}");
+        }
+    }
+}

@@ -1,0 +1,37 @@
+//! The exported functions of `libagreement.a`, as include/agreement.h declares them.
+
+extern "C" {
+    /// Writes {0, n, f, 0} and eight rows, or {2, whose, number, place} for a
+    /// refusal and eight zeros.
+    pub fn agreement_read_card(card: *const u8, length: usize, answer: *mut [u64; 12]);
+
+    /// Writes {0, 0, 0, 0, 0} for no bad split, {1, F, L, C, R} for the first
+    /// one, or {2, whose, number, place, 0} for a refusal.
+    pub fn agreement_split_test(card: *const u8, length: usize, answer: *mut [u64; 5]);
+
+    /// Writes {0, blocks, carriages, 0}, or {2, whose, number, place} for a refusal.
+    pub fn agreement_check_plan(
+        card: *const u8,
+        card_length: usize,
+        plan: *const u8,
+        plan_length: usize,
+        answer: *mut [u64; 4],
+    );
+
+    /// Writes {0, blocks, carriages, 0} and the first n lent bytes, or {2, whose,
+    /// number, place} for a refusal and no lent byte.
+    pub fn agreement_run(
+        card: *const u8,
+        card_length: usize,
+        plan: *const u8,
+        plan_length: usize,
+        inputs: *const u8,
+        inputs_length: usize,
+        faulty: u8,
+        table: *const u8,
+        table_length: usize,
+        lent: *mut u8,
+        lent_length: usize,
+        answer: *mut [u64; 4],
+    );
+}

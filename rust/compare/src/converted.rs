@@ -1,0 +1,34 @@
+//! The library's answers in the types of the reference, so that the two can be compared.
+//! The two crates share no type: the wrapper stands alone, and so does the reference.
+
+use agreement::ServerSet;
+use reference::{Network, Refusal, Split, Totals};
+
+/// A mark for each pair of the eight servers that there can be, as the reference has it:
+/// a link that cannot be is a difference too.
+pub fn network(network: agreement::Network) -> Network {
+    let agreement::Network { n, f, rows } = network;
+    let links = rows.map(|row| std::array::from_fn(|v| row.bits() >> v & 1 == 1));
+    Network { n, f, links }
+}
+
+pub fn split(split: agreement::Split) -> Split {
+    let agreement::Split { f, l, c, r } = split;
+    let [f, l, c, r] = [f, l, c, r].map(ServerSet::bits);
+    Split { f, l, c, r }
+}
+
+/// What the plan check or the run answers.
+pub fn totals(answer: Result<agreement::Totals, agreement::Refusal>) -> Result<Totals, Refusal> {
+    let agreement::Totals { blocks, carriages } = answer.map_err(refusal)?;
+    Ok(Totals { blocks, carriages })
+}
+
+pub fn refusal(refusal: agreement::Refusal) -> Refusal {
+    let number = refusal.number();
+    match refusal {
+        agreement::Refusal::Card { place, .. } => Refusal::Card { number, place },
+        agreement::Refusal::Plan { place, .. } => Refusal::Plan { number, place },
+        agreement::Refusal::Call { .. } => Refusal::Call { number },
+    }
+}

@@ -1,0 +1,5 @@
+//! The installer's program.
+
+mod names;
+
+fn main() {}
