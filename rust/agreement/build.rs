@@ -18,7 +18,10 @@ fn main() {
         Some(directory) => named(PathBuf::from(directory)),
         None => beside_this_crate(),
     };
-    println!("cargo:rerun-if-changed={}", directory.join(ARCHIVE).display());
+    println!(
+        "cargo:rerun-if-changed={}",
+        directory.join(ARCHIVE).display()
+    );
     println!("cargo:rustc-link-search=native={}", directory.display());
     println!("cargo:rustc-link-lib=static=agreement");
 }

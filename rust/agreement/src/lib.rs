@@ -57,7 +57,9 @@ impl Network {
 
     /// Whether there is a link from `u` to `v`.
     pub fn linked(&self, u: u8, v: u8) -> bool {
-        self.rows.get(usize::from(u)).is_some_and(|row| row.contains(v))
+        self.rows
+            .get(usize::from(u))
+            .is_some_and(|row| row.contains(v))
     }
 
     /// The incoming neighbours of `set`: the servers outside it with a link into it.
@@ -316,12 +318,30 @@ mod tests {
         let of_call = |ground| Refusal::Call { ground };
         assert_eq!(refused(&[], &[], &[], 1, 0), card_cut(0));
         assert_eq!(refused(&P1, &[], &[], 1, 0), of_plan(PlanGround::Cut, 0));
-        assert_eq!(refused(&P1, &p6(), &[], 1, 0), of_plan(PlanGround::NotDue, 4));
+        assert_eq!(
+            refused(&P1, &p6(), &[], 1, 0),
+            of_plan(PlanGround::NotDue, 4)
+        );
         assert_eq!(refused(&P1, &P5, &[1], 1, 0), of_call(CallGround::Inputs));
-        assert_eq!(refused(&P1, &P5, &[1, 2], 1, 0), of_call(CallGround::Inputs));
-        assert_eq!(refused(&P1, &P5, &[1, 0], 1, 0), of_call(CallGround::FaultSet));
-        assert_eq!(refused(&P1, &P5, &[1, 0], 4, 0), of_call(CallGround::FaultSet));
-        assert_eq!(refused(&P1, &P5, &[1, 0], 0, 1), of_call(CallGround::Buffer));
-        assert_eq!(refused(&P1, &P5, &[1, 0], 0, 0), of_call(CallGround::Buffer));
+        assert_eq!(
+            refused(&P1, &P5, &[1, 2], 1, 0),
+            of_call(CallGround::Inputs)
+        );
+        assert_eq!(
+            refused(&P1, &P5, &[1, 0], 1, 0),
+            of_call(CallGround::FaultSet)
+        );
+        assert_eq!(
+            refused(&P1, &P5, &[1, 0], 4, 0),
+            of_call(CallGround::FaultSet)
+        );
+        assert_eq!(
+            refused(&P1, &P5, &[1, 0], 0, 1),
+            of_call(CallGround::Buffer)
+        );
+        assert_eq!(
+            refused(&P1, &P5, &[1, 0], 0, 0),
+            of_call(CallGround::Buffer)
+        );
     }
 }

@@ -51,10 +51,18 @@ impl Display for Refusal {
     fn fmt(&self, out: &mut Formatter) -> fmt::Result {
         match self {
             Refusal::Card { ground, place } => {
-                write!(out, "refused card {} at byte {place}: {ground}", ground.number())
+                write!(
+                    out,
+                    "refused card {} at byte {place}: {ground}",
+                    ground.number()
+                )
             }
             Refusal::Plan { ground, place } => {
-                write!(out, "refused plan {} at byte {place}: {ground}", ground.number())
+                write!(
+                    out,
+                    "refused plan {} at byte {place}: {ground}",
+                    ground.number()
+                )
             }
             Refusal::Call { ground } => write!(out, "refused call {}: {ground}", ground.number()),
         }
@@ -143,22 +151,39 @@ mod tests {
     fn numbers_and_grounds_go_both_ways() {
         for number in 0..=300 {
             let card = CardGround::of_number(number).map(CardGround::number);
-            assert_eq!(card.map(u64::from), (1..=6).contains(&number).then_some(number));
+            assert_eq!(
+                card.map(u64::from),
+                (1..=6).contains(&number).then_some(number)
+            );
             let plan = PlanGround::of_number(number).map(PlanGround::number);
             let of_plan = (1..=3).contains(&number) || (7..=11).contains(&number);
             assert_eq!(plan.map(u64::from), of_plan.then_some(number));
             let call = CallGround::of_number(number).map(CallGround::number);
-            assert_eq!(call.map(u64::from), (12..=14).contains(&number).then_some(number));
+            assert_eq!(
+                call.map(u64::from),
+                (12..=14).contains(&number).then_some(number)
+            );
         }
     }
 
     #[test]
     fn a_refusal_says_its_number_its_place_and_why() {
-        let of_plan = Refusal::Plan { ground: PlanGround::Quorum, place: 4 };
-        assert_eq!(of_plan.to_string(), "refused plan 8 at byte 4: S is empty or not within V-F");
+        let of_plan = Refusal::Plan {
+            ground: PlanGround::Quorum,
+            place: 4,
+        };
+        assert_eq!(
+            of_plan.to_string(),
+            "refused plan 8 at byte 4: S is empty or not within V-F"
+        );
         assert_eq!((of_plan.number(), of_plan.place()), (8, Some(4)));
-        let of_call = Refusal::Call { ground: CallGround::Buffer };
-        assert_eq!(of_call.to_string(), "refused call 14: the lent buffer has fewer than n bytes");
+        let of_call = Refusal::Call {
+            ground: CallGround::Buffer,
+        };
+        assert_eq!(
+            of_call.to_string(),
+            "refused call 14: the lent buffer has fewer than n bytes"
+        );
         assert_eq!((of_call.number(), of_call.place()), (14, None));
         let _: &dyn Error = &of_call;
     }

@@ -21,7 +21,11 @@ type Files = [Option<Vec<u8>>; 3];
 /// The program as `rt check` and `rt ci` build it.
 fn program() -> PathBuf {
     let path = Path::new(env!("CARGO_MANIFEST_DIR")).join("../../target/bin/rehearse");
-    assert!(path.is_file(), "there is no {}: run `rt check rehearse` first", path.display());
+    assert!(
+        path.is_file(),
+        "there is no {}: run `rt check rehearse` first",
+        path.display()
+    );
     path
 }
 
@@ -37,7 +41,11 @@ fn printed(program: &Path, folder: &Path, files: &Files) -> String {
     }
     let output = Command::new(program).current_dir(folder).output();
     let output = output.expect("the program can be run");
-    assert!(output.status.success(), "the program ended with {}", output.status);
+    assert!(
+        output.status.success(),
+        "the program ended with {}",
+        output.status
+    );
     String::from_utf8(output.stdout).expect("the program prints ASCII")
 }
 

@@ -16,6 +16,14 @@ impl Names {
         self.0.get(usize::from(office))?.as_deref()
     }
 
+    /// The name of one office, or its number.
+    pub fn called(&self, office: u8) -> String {
+        match self.name(office) {
+            Some(name) => name.to_string(),
+            None => office.to_string(),
+        }
+    }
+
     /// `office 4`, or `office 4 (Hamburg)`.
     pub fn office(&self, office: u8) -> String {
         format!("office {}", self.short(office))

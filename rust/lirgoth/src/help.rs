@@ -1,0 +1,87 @@
+//! What `--help` prints.
+
+pub const ALL: &str = "\
+lirgoth: a site's network, its plan and its drills, for the installer
+
+  lirgoth card CHART [--hex | --site SITE]   the card of a link chart
+  lirgoth chart SITE                         the link chart of a card
+  lirgoth explain SITE                       can the offices agree, is the plan accepted,
+                                             what does each office show
+  lirgoth drill SITE --inputs 11010          a run without a run.in
+  lirgoth drill SITE --every                 every set of failing offices, every kind of lie
+  lirgoth picture SITE                       the network as an SVG picture
+  lirgoth VERB --help                        more on one of these
+  lirgoth --version                          version of the program and of the library
+
+A SITE is a folder with network.card, network.plan and run.in, as far as they are there;
+names of its offices come from network.chart. docs/FORMATS.md says what the files hold.
+
+Status: 0 answered; 1 refused, or the network has a bad split; 2 the command line is
+wrong, or a file is missing or cannot be read, which is then named.
+";
+
+pub const CARD: &str = "\
+lirgoth card CHART [--hex | --site SITE]
+
+Writes the card of a link chart, on standard output as bytes.
+  --hex        as hexadecimal digits, for the eye
+  --site SITE  into the folder SITE as network.card, with the chart beside it as
+               network.chart; the folder is made where it is not there
+
+A chart is plain text:
+
+  # everything after # is a comment
+  offices 5               2 to 8 offices, 0 to 4; or their names with commas between:
+                          offices Geneva, Oslo, Lima, Pusan, Dakar
+  may fail 1              how many of them may fail, 0 to 2
+  0 -> 1                  a link from office 0 to office 1
+  1 <-> 2                 links both ways
+  Geneva -> Oslo, Lima    names and lists of receivers work too
+
+Each mistake is named by its line.
+";
+
+pub const CHART: &str = "\
+lirgoth chart SITE
+
+Writes the link chart of SITE/network.card on standard output, with the names of
+SITE/network.chart where that is there and of the same network.
+";
+
+pub const EXPLAIN: &str = "\
+lirgoth explain SITE
+
+Says in words whether the offices of SITE/network.card can agree, and else which of them
+could be split and why; whether SITE/network.plan is accepted; and what each office shows
+after the run of SITE/run.in. A refusal comes with its number, its place and what stands
+there. A file that is missing is named on standard error, and the status is then 2.
+";
+
+pub const DRILL: &str = "\
+lirgoth drill SITE --inputs BITS [--faulty OFFICES] [--lies LIES] [--write]
+lirgoth drill SITE --every [--inputs BITS] [--lies random:SEED]
+
+Runs SITE's plan without a run.in and says what each office shows.
+  --inputs BITS     what each office enters, 0 open or 1 closed: 11010 for five offices
+  --faulty OFFICES  the offices that fail, by number or name with commas between: 2 or
+                    0,Oslo; none where this is not given
+  --lies LIES       how they lie:
+                      split        each says closed to the first half of the sound offices
+                                   and open to the others, and turns round what it relays
+                                   (where this is not given)
+                      turned       each turns round all that it sends
+                      silent       nothing that they send arrives
+                      random:SEED  anything arrives, the same for the same number SEED
+  --write           stores the run as SITE/run.in, in place of one that is there
+  --every           tries every set of at most f failing offices with each kind of lie,
+                    for BITS or else for all lists of inputs, and says whether all sound
+                    offices agreed in all runs
+";
+
+pub const PICTURE: &str = "\
+lirgoth picture SITE
+
+Writes the network of SITE/network.card as an SVG picture on standard output: offices in
+a ring, one-way links as arrows, two-way links as plain lines. Where the network has a bad
+split its sets are coloured and explained, and the status is 1.
+";

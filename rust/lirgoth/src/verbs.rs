@@ -1,0 +1,342 @@
+//! The verbs of the program, each with its options. One that cannot be understood says
+//! so in words; all else is an answer.
+
+use crate::answer::{Answer, REFUSED};
+use crate::args::{Args, Known};
+use crate::chart::{self, Chart};
+use crate::drill::{self, all_inputs, Drilled};
+use crate::explain;
+use crate::help;
+use crate::lies::Lies;
+use crate::picture;
+use crate::progress::Progress;
+use crate::refused;
+use crate::site::{self, Site, Unreadable, CARD, CHART, RUN};
+use agreement::{Network, Refusal, ServerSet};
+use std::fs;
+use std::io::{self, IsTerminal};
+use std::path::Path;
+
+pub struct Verb {
+    pub name: &'static str,
+    pub help: &'static str,
+    pub known: &'static [Known],
+    pub run: fn(&Args) -> Result<Answer, String>,
+}
+
+pub fn find(name: &str) -> Option<&'static Verb> {
+    VERBS.iter().find(|verb| verb.name == name)
+}
+
+const VERBS: [Verb; 8] = [
+    Verb {
+        name: "card",
+        help: help::CARD,
+        known: &[("--hex", None), ("--site", Some("a folder"))],
+        run: card,
+    },
+    Verb {
+        name: "chart",
+        help: help::CHART,
+        known: &[],
+        run: |args| on_site(args, chart_of),
+    },
+    Verb {
+        name: "explain",
+        help: help::EXPLAIN,
+        known: &[],
+        run: |args| on_site(args, |site| explain::explain(&site)),
+    },
+    Verb {
+        name: "drill",
+        help: help::DRILL,
+        known: &[
+            ("--inputs", Some("a bit for each office")),
+            ("--faulty", Some("offices")),
+            ("--lies", Some("split, turned, silent or random:SEED")),
+            ("--write", None),
+            ("--every", None),
+        ],
+        run: drill,
+    },
+    Verb {
+        name: "picture",
+        help: help::PICTURE,
+        known: &[],
+        run: |args| on_site(args, picture_of),
+    },
+    Verb {
+        name: "--help",
+        help: help::ALL,
+        known: &[],
+        run: |_| Ok(Answer::of(help::ALL)),
+    },
+    Verb {
+        name: "-h",
+        help: help::ALL,
+        known: &[],
+        run: |_| Ok(Answer::of(help::ALL)),
+    },
+    Verb {
+        name: "--version",
+        help: help::ALL,
+        known: &[],
+        run: |_| Ok(Answer::of(version())),
+    },
+];
+
+fn version() -> String {
+    format!("lirgoth {}\n", env!("CARGO_PKG_VERSION"))
+}
+
+/// What a verb answers that takes a site and nothing else.
+fn on_site(args: &Args, verb: fn(Site) -> Result<Answer, Unreadable>) -> Result<Answer, String> {
+    let folder = args.path("SITE")?;
+    Ok(Site::open(folder).and_then(verb).unwrap_or_else(unreadable))
+}
+
+fn unreadable(why: Unreadable) -> Answer {
+    Answer::default().unreadable(why)
+}
+
+/// A file that cannot be written is named as one that cannot be read is.
+fn write(path: &Path, bytes: &[u8]) -> Result<(), Unreadable> {
+    fs::write(path, bytes)
+        .map_err(|error| Unreadable(format!("{} cannot be written: {error}", path.display())))
+}
+
+fn card(args: &Args) -> Result<Answer, String> {
+    let path = args.path("CHART")?;
+    let (hex, site) = (args.has("--hex"), args.value("--site"));
+    if hex && site.is_some() {
+        return Err("--hex and --site do not go together".to_string());
+    }
+    let bytes = match site::read(path) {
+        Ok(bytes) => bytes,
+        Err(why) => return Ok(unreadable(why)),
+    };
+    let chart = match chart::read(&bytes) {
+        Ok(chart) => chart,
+        Err(mistakes) => {
+            let mut answer = Answer::default().refused();
+            let named = |mistake| format!("{}, {mistake}", path.display());
+            answer.notes = mistakes.iter().map(named).collect();
+            return Ok(answer);
+        }
+    };
+    let card = chart::card(&chart.network);
+    debug_assert_eq!(agreement::read_card(&card), Ok(chart.network));
+    if let Some(folder) = site {
+        let stored = store(Path::new(folder), &card, &bytes);
+        return Ok(stored.map_or_else(unreadable, Answer::of));
+    }
+    if hex {
+        return Ok(Answer::of(in_hexadecimal(&card)));
+    }
+    if io::stdout().is_terminal() {
+        return Err(
+            "a card is bytes, not text: name a file with >, or add --hex or --site".to_string(),
+        );
+    }
+    Ok(Answer::of(card))
+}
+
+/// Card and chart into a site's folder.
+fn store(folder: &Path, card: &[u8], chart: &[u8]) -> Result<String, Unreadable> {
+    fs::create_dir_all(folder)
+        .map_err(|error| Unreadable(format!("{} cannot be made: {error}", folder.display())))?;
+    let path = folder.join(CARD);
+    write(&path, card)?;
+    write(&folder.join(CHART), chart)?;
+    Ok(format!(
+        "{} written, {} bytes\n",
+        path.display(),
+        card.len()
+    ))
+}
+
+/// A command to a line.
+fn in_hexadecimal(card: &[u8]) -> String {
+    let mut text = String::new();
+    for command in card.chunks(3) {
+        let bytes: Vec<String> = command.iter().map(|byte| format!("{byte:02X}")).collect();
+        text += &bytes.join(" ");
+        text.push('\n');
+    }
+    text
+}
+
+/// The site's card with its network, or the answer that refuses it.
+fn network_of(site: &Site) -> Result<Result<(Vec<u8>, Network), Answer>, Unreadable> {
+    let card = site.card()?;
+    Ok(match agreement::read_card(&card) {
+        Ok(network) => Ok((card, network)),
+        Err(refusal) => Err(refused_card(refusal, &card)),
+    })
+}
+
+fn refused_card(refusal: Refusal, card: &[u8]) -> Answer {
+    let mut answer = Answer::default().refused();
+    answer.notes.push(refused::card(refusal, card));
+    answer
+}
+
+fn chart_of(site: Site) -> Result<Answer, Unreadable> {
+    let network = match network_of(&site)? {
+        Ok((_, network)) => network,
+        Err(refused) => return Ok(refused),
+    };
+    let (names, note) = site.names(&network);
+    let mut answer = Answer::of(chart::written(&Chart { network, names }));
+    answer.notes.extend(note);
+    Ok(answer)
+}
+
+fn picture_of(site: Site) -> Result<Answer, Unreadable> {
+    let (card, network) = match network_of(&site)? {
+        Ok(read) => read,
+        Err(refused) => return Ok(refused),
+    };
+    let split = match agreement::split_test(&card) {
+        Ok(split) => split,
+        Err(refusal) => return Ok(refused_card(refusal, &card)),
+    };
+    let (names, note) = site.names(&network);
+    let mut answer = Answer::of(picture::svg(&network, &names, split));
+    answer.notes.extend(note);
+    Ok(match split {
+        Some(_) => answer.refused(),
+        None => answer,
+    })
+}
+
+fn drill(args: &Args) -> Result<Answer, String> {
+    let folder = args.path("SITE")?;
+    let inputs = args.text("--inputs")?;
+    let lies = match args.text("--lies")? {
+        None => None,
+        Some(text) => match Lies::parse(text) {
+            Some(lies) => Some(lies),
+            None => return Err(format!("\"{text}\" is no kind of lie")),
+        },
+    };
+    let every = args.has("--every");
+    if every && (args.has("--write") || args.has("--faulty")) {
+        return Err("--every goes through all failing offices and stores no run".to_string());
+    }
+    if !every && inputs.is_none() {
+        return Err("--inputs is missing".to_string());
+    }
+    let site = match Site::open(folder) {
+        Ok(site) => site,
+        Err(why) => return Ok(unreadable(why)),
+    };
+    let drilled = match drill::open(&site) {
+        Ok(Ok(drilled)) => drilled,
+        Ok(Err(answer)) => return Ok(answer),
+        Err(why) => return Ok(unreadable(why)),
+    };
+    let inputs = inputs
+        .map(|text| bits(text, drilled.network.n))
+        .transpose()?;
+    let mut answer = match inputs {
+        Some(inputs) if !every => {
+            let faulty = offices(args.text("--faulty")?, &drilled)?;
+            one_drill(
+                &site,
+                &drilled,
+                faulty,
+                inputs,
+                lies.unwrap_or(Lies::Split),
+                args.has("--write"),
+            )
+        }
+        inputs => every_drill(&drilled, inputs, lies)?,
+    };
+    answer.notes.splice(0..0, drilled.notes);
+    Ok(answer)
+}
+
+fn one_drill(
+    site: &Site,
+    drilled: &Drilled,
+    faulty: ServerSet,
+    inputs: Vec<u8>,
+    lies: Lies,
+    store: bool,
+) -> Answer {
+    let run = drilled.run(faulty, inputs, lies);
+    let mut answer = drilled.once(&run, lies);
+    // A refused run is none to store.
+    if store && answer.status != REFUSED {
+        let path = site.path(RUN);
+        match write(&path, &run.bytes()) {
+            Ok(()) => answer.line(&format!(
+                "{} written, {} bytes",
+                path.display(),
+                run.bytes().len()
+            )),
+            Err(why) => return answer.unreadable(why),
+        }
+    }
+    answer
+}
+
+fn every_drill(
+    drilled: &Drilled,
+    inputs: Option<Vec<u8>>,
+    lies: Option<Lies>,
+) -> Result<Answer, String> {
+    let seed = match lies {
+        None => 1,
+        Some(Lies::Random(seed)) => seed,
+        Some(other) => return Err(format!("--every tries each kind of lie, not {other} alone")),
+    };
+    let lists = match inputs {
+        Some(inputs) => vec![inputs],
+        None => all_inputs(drilled.network.n),
+    };
+    let mut progress = Progress::new();
+    Ok(drilled.every(&lists, seed, |done, all| progress.say(done, all)))
+}
+
+/// `11010`: a bit for each of `n` offices.
+fn bits(text: &str, n: u8) -> Result<Vec<u8>, String> {
+    let bit = |character| match character {
+        '0' => Ok(0),
+        '1' => Ok(1),
+        other => Err(format!(
+            "--inputs has \"{other}\", and wants 0 or 1 for each office"
+        )),
+    };
+    let bits: Vec<u8> = text.chars().map(bit).collect::<Result<_, String>>()?;
+    if bits.len() != usize::from(n) {
+        return Err(format!(
+            "--inputs has {} bits, and there are {n} offices",
+            bits.len()
+        ));
+    }
+    Ok(bits)
+}
+
+/// `2`, `0,Oslo` or `none`.
+fn offices(text: Option<&str>, drilled: &Drilled) -> Result<ServerSet, String> {
+    let Some(text) = text.filter(|text| *text != "none") else {
+        return Ok(ServerSet::EMPTY);
+    };
+    let all = drilled.network.servers();
+    let found = |called: &str| {
+        let by_name = all
+            .iter()
+            .find(|&office| drilled.names.name(office) == Some(called));
+        let by_number = called.parse().ok().filter(|&office| all.contains(office));
+        let found = by_name.or(by_number);
+        found.ok_or_else(|| {
+            format!(
+                "--faulty has \"{called}\", and offices are 0 to {} or their names",
+                drilled.network.n - 1
+            )
+        })
+    };
+    text.split(',').map(|called| found(called.trim())).collect()
+}

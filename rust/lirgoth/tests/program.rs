@@ -1,0 +1,440 @@
+//! The program as an installer runs it: what it prints, and its status.
+
+use generate::{complete_card, Rng};
+use std::fs;
+use std::path::{Path, PathBuf};
+use std::process::{Command, Output};
+use std::sync::atomic::{AtomicUsize, Ordering};
+
+const ANSWERED: i32 = 0;
+const REFUSED: i32 = 1;
+const UNUSABLE: i32 = 2;
+
+/// A chart of five offices as one would type it.
+const CHART: &str = "\
+# five offices of a dry-bulk desk
+offices Geneva, Oslo, Lima, Pusan, Dakar
+may fail 1
+
+Geneva <-> Lima      # both ways
+Geneva -> Pusan, Dakar
+Oslo -> Geneva
+Oslo <-> Lima
+Oslo <-> Pusan
+Lima -> Dakar
+Pusan -> Geneva, Lima, Dakar
+Dakar -> Oslo, Pusan
+";
+
+/// A folder that is gone with the test.
+struct Folder(PathBuf);
+
+impl Folder {
+    fn new() -> Folder {
+        static COUNT: AtomicUsize = AtomicUsize::new(0);
+        let count = COUNT.fetch_add(1, Ordering::Relaxed);
+        let path = std::env::temp_dir().join(format!("lirgoth-{}-{count}", std::process::id()));
+        fs::create_dir_all(&path).expect("a temporary folder can be made");
+        Folder(path)
+    }
+
+    fn with(files: &[(&str, &[u8])]) -> Folder {
+        let folder = Folder::new();
+        for (name, bytes) in files {
+            fs::write(folder.path(name), bytes).expect("the folder can be written to");
+        }
+        folder
+    }
+
+    fn path(&self, name: &str) -> PathBuf {
+        self.0.join(name)
+    }
+
+    fn shown(&self, name: &str) -> String {
+        self.path(name).display().to_string()
+    }
+}
+
+impl Drop for Folder {
+    fn drop(&mut self) {
+        let _ = fs::remove_dir_all(&self.0);
+    }
+}
+
+fn example(site: &str) -> String {
+    let path = Path::new(env!("CARGO_MANIFEST_DIR"))
+        .join("../../examples")
+        .join(site);
+    path.display().to_string()
+}
+
+fn lirgoth(args: &[&str]) -> Output {
+    let mut program = Command::new(env!("CARGO_BIN_EXE_lirgoth"));
+    program.args(args).output().expect("the program can be run")
+}
+
+/// What a call with that status puts on standard output and standard error.
+fn said(args: &[&str], status: i32) -> (String, String) {
+    let Output {
+        status: ended,
+        stdout,
+        stderr,
+    } = lirgoth(args);
+    let [out, err] = [stdout, stderr].map(|bytes| String::from_utf8(bytes).expect("text"));
+    assert_eq!(ended.code(), Some(status), "{args:?} said {out}{err}");
+    (out, err)
+}
+
+fn out(args: &[&str], status: i32) -> String {
+    said(args, status).0
+}
+
+#[test]
+fn from_a_chart_typed_by_hand_to_a_card_and_a_picture() {
+    let folder = Folder::with(&[("desk.chart", CHART.as_bytes())]);
+    let (chart, site) = (folder.shown("desk.chart"), folder.shown("site"));
+    let stored = out(&["card", &chart, "--site", &site], ANSWERED);
+    assert_eq!(stored, format!("{site}/network.card written, 49 bytes\n"));
+
+    let card = fs::read(folder.path("site/network.card")).expect("it was written");
+    let network = agreement::read_card(&card).expect("the library reads it");
+    assert_eq!((network.n, network.f), (5, 1));
+    assert!(network.linked(0, 2) && network.linked(2, 0));
+    assert!(network.linked(0, 3) && network.linked(3, 0) && !network.linked(4, 0));
+    assert_eq!(lirgoth(&["card", &chart]).stdout, card);
+    let hex = out(&["card", "--hex", &chart], ANSWERED);
+    assert!(hex.starts_with("01 05 01\n02 00 02\n02 00 03\n"), "{hex}");
+    assert!(hex.ends_with("\n03\n"), "{hex}");
+
+    // The chart of the card makes the same card again.
+    let again = out(&["chart", &site], ANSWERED);
+    assert!(
+        again.starts_with("offices Geneva, Oslo, Lima, Pusan, Dakar\nmay fail 1\n"),
+        "{again}"
+    );
+    fs::write(folder.path("again.chart"), again).expect("the folder can be written to");
+    assert_eq!(
+        lirgoth(&["card", &folder.shown("again.chart")]).stdout,
+        card
+    );
+
+    let picture = out(&["picture", &site], ANSWERED);
+    assert!(
+        picture.starts_with("<?xml") || picture.starts_with("<svg"),
+        "{picture}"
+    );
+    assert!(picture.contains("Pusan") && picture.trim_end().ends_with("</svg>"));
+
+    let (explained, missing) = said(&["explain", &site], UNUSABLE);
+    assert!(
+        explained.starts_with("5 offices, at most 1 may fail, 15 links\n"),
+        "{explained}"
+    );
+    assert!(
+        missing.contains(&format!("{site}/network.plan is missing")),
+        "{missing}"
+    );
+}
+
+#[test]
+fn mistakes_in_a_chart_are_named_by_their_lines() {
+    let folder = Folder::with(&[("bad.chart", b"offices 3\nmay fail 1\n0 -> 3\n1 -> 1\n")]);
+    let chart = folder.shown("bad.chart");
+    let (printed, mistakes) = said(&["card", &chart, "--site", &folder.shown("site")], REFUSED);
+    assert_eq!(printed, "");
+    let lines: Vec<&str> = mistakes.lines().collect();
+    assert_eq!(
+        lines,
+        [
+            format!("lirgoth: {chart}, line 3: there is no office \"3\": offices are 0 to 2, or their names"),
+            format!("lirgoth: {chart}, line 4: a link from office 1 to itself"),
+        ]
+    );
+    assert!(!folder.path("site").exists());
+}
+
+#[test]
+fn the_example_sites_in_words() {
+    for (site, status) in [
+        ("dry-bulk", ANSWERED),
+        ("ship", ANSWERED),
+        ("small", ANSWERED),
+        ("tanker", REFUSED),
+        ("two-regions", REFUSED),
+    ] {
+        let folder = example(site);
+        let expected = fs::read_to_string(format!("{folder}/expected/explain.txt"));
+        assert_eq!(
+            out(&["explain", &folder], status),
+            expected.expect("stored words"),
+            "{site}"
+        );
+        let expected = fs::read_to_string(format!("{folder}/expected/picture.svg"));
+        let status = if site == "two-regions" {
+            REFUSED
+        } else {
+            ANSWERED
+        };
+        assert_eq!(
+            out(&["picture", &folder], status),
+            expected.expect("a stored picture"),
+            "{site}"
+        );
+    }
+}
+
+#[test]
+fn a_drill_can_be_stored_and_explained() {
+    let site = example("dry-bulk");
+    let file = |name: &str| fs::read(format!("{site}/{name}")).expect("the example is there");
+    let folder = Folder::with(&[
+        ("network.card", &file("network.card")),
+        ("network.plan", &file("network.plan")),
+    ]);
+    let own = folder.0.display().to_string();
+    for lies in ["split", "turned", "silent", "random:7"] {
+        let drill = [
+            "drill", &own, "--faulty", "2", "--inputs", "11010", "--lies", lies,
+        ];
+        let printed = out(&drill, ANSWERED);
+        let shows = printed
+            .lines()
+            .filter(|line| line.contains(" shows "))
+            .count();
+        assert_eq!(shows, 4, "{printed}");
+        assert!(!folder.path("run.in").exists() || lies != "split");
+
+        let written = out(&[&drill[..], &["--write"]].concat(), ANSWERED);
+        let stored = fs::read(folder.path("run.in")).expect("it was stored");
+        assert_eq!(stored[..6], [4, 1, 1, 0, 1, 0]);
+        assert_eq!(stored.len(), if lies == "silent" { 6 } else { 470 });
+        assert!(written.starts_with(&printed), "{written}");
+        let explained = out(&["explain", &own], ANSWERED);
+        let offices = |text: &str| -> Vec<String> {
+            let lines = text
+                .lines()
+                .filter(|line| line.starts_with("office ") && !line.contains(" to "));
+            lines
+                .filter(|line| line.contains(" shows "))
+                .map(str::to_string)
+                .collect()
+        };
+        assert_eq!(offices(&explained), offices(&printed));
+    }
+}
+
+#[test]
+fn the_drill_of_the_mission_is_the_run_of_the_site() {
+    // Office 2 says closed to 0 and 1 and open to 3 and 4, and turns round what it relays.
+    let printed = out(
+        &[
+            "drill",
+            &example("dry-bulk"),
+            "--faulty=2",
+            "--inputs=11010",
+            "--lies=split",
+        ],
+        ANSWERED,
+    );
+    assert_eq!(
+        printed,
+        "office 2 says closed to 0 1 and open to 3 4, and turns round what it relays for others\n\
+         office 0 entered closed and shows closed\n\
+         office 1 entered closed and shows closed\n\
+         office 2 fails\n\
+         office 3 entered closed and shows closed\n\
+         office 4 entered open and shows closed\n"
+    );
+}
+
+#[test]
+fn every_drill_of_a_site() {
+    let (printed, progress) = said(&["drill", &example("dry-bulk"), "--every"], ANSWERED);
+    assert_eq!(
+        printed,
+        "all sound offices agreed in all of 672 runs, each time on what one of them had entered\n\
+         tried: 6 sets of at most 1 failing, 32 lists of inputs, lies split, turned, silent, random:1\n"
+    );
+    assert!(progress.ends_with("672 of 672 runs\n"), "{progress}");
+    let one = [
+        "drill",
+        &example("ship"),
+        "--every",
+        "--inputs",
+        "10100",
+        "--lies",
+        "random:9",
+    ];
+    assert!(out(&one, ANSWERED).contains("all of 21 runs"));
+}
+
+#[test]
+fn drills_that_cannot_be() {
+    let site = example("dry-bulk");
+    let refused = out(
+        &["drill", &site, "--faulty", "0,2", "--inputs", "11010"],
+        REFUSED,
+    );
+    assert_eq!(
+        refused,
+        "refused call 13: offices 0 2 are to fail, and at most 1 may\n"
+    );
+    let refused = out(&["drill", &example("tanker"), "--inputs", "11010"], REFUSED);
+    assert!(
+        refused.starts_with("refused plan 10 at byte 197: block 2"),
+        "{refused}"
+    );
+    let split = out(
+        &["drill", &example("two-regions"), "--inputs", "111111"],
+        REFUSED,
+    );
+    assert!(
+        split.starts_with("bad split (F none, L 1 2, C 0 3, R 4 5): "),
+        "{split}"
+    );
+    let folder = Folder::with(&[("network.card", &complete_card(4, 1))]);
+    let own = folder.0.display().to_string();
+    let (_, missing) = said(&["drill", &own, "--inputs", "1111"], UNUSABLE);
+    assert_eq!(missing, format!("lirgoth: {own}/network.plan is missing\n"));
+    for (args, why) in [
+        (
+            &["--every", "--write"][..],
+            "--every goes through all failing offices",
+        ),
+        (
+            &["--every", "--lies", "split"],
+            "--every tries each kind of lie",
+        ),
+        (&[], "--inputs is missing"),
+        (
+            &["--inputs", "1101"],
+            "--inputs has 4 bits, and there are 5 offices",
+        ),
+        (&["--inputs", "11012"], "--inputs has \"2\""),
+        (
+            &["--inputs", "11010", "--faulty", "5"],
+            "--faulty has \"5\"",
+        ),
+        (
+            &["--inputs", "11010", "--lies", "loud"],
+            "\"loud\" is no kind of lie",
+        ),
+    ] {
+        let (printed, error) = said(&[&["drill", &site][..], args].concat(), UNUSABLE);
+        assert_eq!(printed, "");
+        assert!(error.contains(why), "{args:?}: {error}");
+    }
+}
+
+#[test]
+fn a_plan_longer_than_rehearse_takes_is_explained() {
+    let card = complete_card(8, 1);
+    let plan = generate::plan(&mut Rng::new(1), &card).expect("n is over 3f");
+    assert!(plan.len() > 65_536);
+    let folder = Folder::with(&[
+        ("network.card", &card),
+        ("network.plan", &plan),
+        ("run.in", &[0b100, 1, 1, 1, 1, 0, 0, 0, 0]),
+    ]);
+    let explained = out(&["explain", &folder.0.display().to_string()], ANSWERED);
+    assert_eq!(
+        explained
+            .lines()
+            .filter(|line| line.contains(" shows "))
+            .count(),
+        7,
+        "{explained}"
+    );
+}
+
+#[test]
+fn a_refused_call_is_told_in_words() {
+    let site = example("small");
+    let file = |name: &str| fs::read(format!("{site}/{name}")).expect("the example is there");
+    let folder = Folder::with(&[
+        ("network.card", &file("network.card")),
+        ("network.plan", &file("network.plan")),
+        ("run.in", &[0, 1]),
+    ]);
+    let explained = out(&["explain", &folder.0.display().to_string()], REFUSED);
+    let last = explained.lines().last();
+    assert_eq!(
+        last,
+        Some("refused call 12: 1 inputs are given, and each of the 2 offices enters one")
+    );
+}
+
+#[test]
+fn files_that_cannot_be_read_are_named() {
+    let folder = Folder::new();
+    let own = folder.0.display().to_string();
+    for verb in ["explain", "chart", "picture"] {
+        let (_, error) = said(&[verb, &own], UNUSABLE);
+        assert_eq!(error, format!("lirgoth: {own}/network.card is missing\n"));
+        let nowhere = folder.shown("nowhere");
+        let (_, error) = said(&[verb, &nowhere], UNUSABLE);
+        assert!(error.contains(&format!("{nowhere} is missing")), "{error}");
+    }
+    fs::create_dir(folder.path("network.card")).expect("the folder can be written to");
+    let (_, error) = said(&["explain", &own], UNUSABLE);
+    assert_eq!(
+        error,
+        format!("lirgoth: {own}/network.card is a folder, and a file is wanted\n")
+    );
+    let (_, error) = said(&["card", &folder.shown("nothing.chart")], UNUSABLE);
+    assert!(error.contains("nothing.chart is missing"), "{error}");
+    fs::write(folder.path("desk.chart"), CHART).expect("the folder can be written to");
+    let (_, error) = said(&["picture", &folder.shown("desk.chart")], UNUSABLE);
+    assert!(
+        error.contains("desk.chart is a file, and a site is a folder"),
+        "{error}"
+    );
+}
+
+#[test]
+fn a_refused_card_is_told_by_every_verb() {
+    let folder = Folder::with(&[("network.card", &[1, 9, 0, 3])]);
+    let own = folder.0.display().to_string();
+    let words = "refused card 5 at byte 0: 9 offices, and there can be 2 to 8";
+    for args in [
+        &["explain", &own][..],
+        &["chart", &own],
+        &["picture", &own],
+        &["drill", &own, "--every"],
+    ] {
+        let (printed, error) = said(args, REFUSED);
+        assert!(format!("{printed}{error}").contains(words), "{args:?}");
+    }
+}
+
+#[test]
+fn a_chart_of_another_network_gives_no_names() {
+    let folder = Folder::with(&[
+        ("network.card", &[1, 2, 0, 2, 0, 1, 3]),
+        ("network.chart", b"offices Oslo, Lima\nmay fail 0\n"),
+    ]);
+    let (chart, note) = said(&["chart", &folder.0.display().to_string()], ANSWERED);
+    assert_eq!(chart, "offices 2\nmay fail 0\n0 -> 1\n");
+    assert!(
+        note.contains("network.chart is of another network than network.card"),
+        "{note}"
+    );
+}
+
+#[test]
+fn help_and_bad_usage() {
+    let help = out(&["--help"], ANSWERED);
+    for verb in ["card", "chart", "explain", "drill", "picture"] {
+        assert!(help.contains(&format!("  lirgoth {verb} ")), "{verb}");
+        let own = out(&[verb, "--help"], ANSWERED);
+        assert!(own.starts_with(&format!("lirgoth {verb} ")), "{own}");
+        let (_, error) = said(&[verb], UNUSABLE);
+        assert!(error.contains("is missing"), "{error}");
+        let (_, error) = said(&[verb, "a", "b"], UNUSABLE);
+        assert!(error.contains("one word too many"), "{error}");
+        let (_, error) = said(&[verb, "a", "--loud"], UNUSABLE);
+        assert!(error.contains("there is no option --loud"), "{error}");
+    }
+    said(&[], UNUSABLE);
+    said(&["sing"], UNUSABLE);
+}
