@@ -1,8 +1,8 @@
 -- Algorithm BC of Tseng and Vaidya, "Byzantine Consensus in Directed Graphs", section 4, over arbitrary sets of servers and for every n and f.
 -- Its choices are parameters: for each block the sets F, A and S, the paths of Propagate and Equality, and N_k of step (j). The adversary is what
 -- arrives on a path with a faulty server. Changes from the paper: servers are numbered from 0; ⊥ is 2; a set is a test, of which only the servers below n
--- count; a path holds its servers before the receiver; N_k is a list of paths of one server; case 1 is taken where S lies within A, as paper 01 has it (the
--- paper: where B does not propagate to A), and then both cases give the same; f = 0 has no case of its own.
+-- count; a path holds its servers before the receiver; N_k is a list of paths of one server; case 1 is taken where S lies within A,
+-- as docs/FORMATS.md has it (the paper: where B does not propagate to A), and then both cases give the same; f = 0 has no case of its own.
 --     bcBlock n X b v      == v after one iteration of the INNER loop, X being the actual faulty set
 --     bc n X bs v          == v after the iterations bs
 use mathlib.Core.Bool.{Bool, true, false, cond, not, _&&_, _||_}

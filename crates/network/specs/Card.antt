@@ -1,4 +1,4 @@
--- What the bytes of a card give, command by command from the front, each command tested in the order of paper 01's table.
+-- What the bytes of a card give, command by command from the front, each tested in the order of the table of docs/FORMATS.md.
 --     readCard s  == the network n, f, links of the card, or its one refusal
 -- 01 stands first and only there, so a command is the first one exactly at place 0.
 use mathlib.Core.Bool.{Bool, cond, not, _&&_}

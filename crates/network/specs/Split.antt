@@ -1,4 +1,4 @@
--- The split test of paper 01. V is split into F, L, C, R; sets are numbers, and the splits come in the order of F, then L, then R.
+-- The split test of docs/FORMATS.md. V is split into F, L, C, R; sets are numbers; splits come in the order of F, then L, then R.
 --     splitTest s  == the first bad split of the network of card s, "good" if none is bad, or the card's refusal
 use mathlib.Core.Bool.{Bool, false, cond, not, _&&_, _||_}
 use mathlib.Core.List.{List}

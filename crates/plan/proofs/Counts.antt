@@ -1,4 +1,4 @@
--- How many blocks a plan has, computed from the definition: paper 01's four counts. Assumes nothing.
+-- How many blocks a plan has, computed from the definition: four counts of docs/FORMATS.md. Assumes nothing.
 use mathlib.Core.Path.{_≡_, refl}
 use lib.ListN.{length}
 use Rattle.sets.specs.Sets.{has, meet, minus, within, full, count, size, firstIn, lowest}

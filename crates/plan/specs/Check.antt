@@ -1,4 +1,4 @@
--- What the bytes of a plan give, command by command, each tested in the order of paper 01's table: 2, 7, 8, 9, 10, 11.
+-- What the bytes of a plan give, command by command, each tested in the order of the table of docs/FORMATS.md: 2, 7, 8, 9, 10, 11.
 --     checkPlan card plan  == the number of blocks and of carriages, or the one refusal, the card's first
 use mathlib.Core.Bool.{Bool, true, cond, not, _&&_, _||_}
 use mathlib.Core.List.{List, [], _∷_}

@@ -1,4 +1,4 @@
--- The refusals as paper 01's table has them: what is at fault, the number, and for a card or a plan the place.
+-- The refusals as the table of docs/FORMATS.md has them: what is at fault, the number, and for a card or a plan the place.
 --     Refused      == a line of the table with its values
 --     refusalOf r  == the line that the code's refusal r stands for
 use Prim.Native.Nat.{ℕ}

@@ -1,4 +1,4 @@
--- What paper 01 asks of a plan, sentence by sentence, on servers and links.
+-- What docs/FORMATS.md asks of a plan, sentence by sentence, on servers and links.
 --     MeetsRules n f links s   <-> s is the encoding of blocks that are the due ones, in order, each within the rules
 use mathlib.Core.Path.{_≡_}
 use mathlib.Core.Logic.{_⊎_}

@@ -1,4 +1,4 @@
--- The six steps of a block, each one sentence of paper 01. v and t are the values of the eight servers that there can be.
+-- The six steps of a block, each one sentence of docs/FORMATS.md. v and t are the values of the eight servers that there can be.
 --     runBlock ..   == v and t after the block's six steps; `number` is that of its first carriage
 use mathlib.Core.Bool.{cond, not, _&&_}
 use mathlib.Core.List.{List, [], _∷_, map}

@@ -1,4 +1,4 @@
--- The table of small networks: each row is a call and the values that paper 01 says it gives.
+-- The table of small networks: each row is a call and the values that it gives by docs/FORMATS.md.
 --     Holds row  <-> the definitions give those values
 --     KeepsAlone     P10 for every S of one server
 use mathlib.Core.Path.{_≡_}
