@@ -1,6 +1,7 @@
 //! What the words of an answer say, in the types of this crate. Each function answers
 //! with `None` for words that the library's contract rules out.
 
+use crate::PLAN_LIMIT;
 use crate::{CallGround, CardGround, Network, PlanGround, Refusal, ServerSet, Split, Totals};
 
 /// Lent answers start out as this, which no answer holds: a word that the library left
@@ -19,8 +20,8 @@ const OF_CALL: u64 = 2;
 
 /// No network has more blocks than one of eight servers and two faults.
 const MOST_BLOCKS: u64 = 1_499;
-/// A plan's bytes at most, and so its carriages: none takes less than a byte.
-const PLAN_LIMIT: u64 = 1_048_576;
+/// No carriage takes less than a byte of its plan.
+const MOST_CARRIAGES: u64 = PLAN_LIMIT as u64;
 
 pub fn network(answer: &[u64; 12]) -> Option<Network> {
     let [ANSWERED, n @ 2..=8, f @ 0..=2, 0, words @ ..] = *answer else {
@@ -62,10 +63,12 @@ pub fn split_or_refusal(answer: [u64; 5]) -> Option<Result<Option<Split>, Refusa
 /// The answer of the plan check.
 pub fn totals_or_refusal(answer: [u64; 4]) -> Option<Result<Totals, Refusal>> {
     match answer {
-        [ANSWERED, blocks @ 1..=MOST_BLOCKS, carriages @ 1..=PLAN_LIMIT, 0] => Some(Ok(Totals {
-            blocks: usize::try_from(blocks).ok()?,
-            carriages: usize::try_from(carriages).ok()?,
-        })),
+        [ANSWERED, blocks @ 1..=MOST_BLOCKS, carriages @ 1..=MOST_CARRIAGES, 0] => {
+            Some(Ok(Totals {
+                blocks: usize::try_from(blocks).ok()?,
+                carriages: usize::try_from(carriages).ok()?,
+            }))
+        }
         [REFUSED, OF_CARD, number, place] => Some(Err(of_card(number, place)?)),
         [REFUSED, OF_PLAN, number, place] => Some(Err(Refusal::Plan {
             ground: PlanGround::of_number(number)?,

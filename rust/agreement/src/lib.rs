@@ -38,6 +38,11 @@ pub use servers::{Members, ServerSet};
 
 use answers::UNWRITTEN;
 
+/// How many bytes a card has at most.
+pub const CARD_LIMIT: usize = 1_024;
+/// How many bytes a plan has at most.
+pub const PLAN_LIMIT: usize = 1_048_576;
+
 /// The network of an accepted card.
 #[derive(Debug, Clone, Copy, PartialEq, Eq)]
 pub struct Network {
@@ -233,7 +238,7 @@ pub fn run(
 mod tests {
     use super::*;
 
-    /// The card of P1: two servers, no faults, one link from 0 to 1.
+    /// The card of P1 (docs/FORMATS.md has the cases P1 to P10): two servers, no faults, one link from 0 to 1.
     const P1: [u8; 7] = [0x01, 0x02, 0x00, 0x02, 0x00, 0x01, 0x03];
 
     const fn card_cut(place: usize) -> Refusal {
@@ -246,7 +251,7 @@ mod tests {
     }
 
     #[test]
-    fn small_networks_of_the_paper() {
+    fn small_networks() {
         let network = Network {
             n: 2,
             f: 0,
@@ -287,14 +292,14 @@ mod tests {
     }
 
     #[test]
-    fn small_plans_of_the_paper() {
+    fn small_plans() {
         assert_eq!(check_plan(&P1, &P5), Ok(P5_TOTALS));
         assert_eq!(check_plan(&P1, &p6()), Err(of_plan(PlanGround::NotDue, 4)));
         assert_eq!(check_plan(&P1, &[]), Err(of_plan(PlanGround::Cut, 0)));
     }
 
     #[test]
-    fn small_runs_of_the_paper() {
+    fn small_runs() {
         let mut lent = [9; 4];
         let none = ServerSet::EMPTY;
         assert_eq!(run(&P1, &P5, &[1, 0], none, &[], &mut lent), Ok(P5_TOTALS));

@@ -38,13 +38,14 @@ impl Names {
         }
     }
 
-    /// `0 1`, with names where there are any, or `none`.
+    /// `0 1`, with names `0 (Oslo), 1`, or `none`.
     pub fn list(&self, set: ServerSet) -> String {
         if set.is_empty() {
             return "none".to_string();
         }
         let offices: Vec<String> = set.iter().map(|office| self.short(office)).collect();
-        offices.join(" ")
+        let named = set.iter().any(|office| self.name(office).is_some());
+        offices.join(if named { ", " } else { " " })
     }
 
     fn short(&self, office: u8) -> String {
@@ -68,7 +69,8 @@ mod tests {
         assert_eq!(names.office(7), "office 7");
         assert_eq!(names.offices(set(0)), "no office");
         assert_eq!(names.offices(set(2)), "office 1 (Hamburg)");
-        assert_eq!(names.offices(set(3)), "offices 0 1 (Hamburg)");
+        assert_eq!(names.offices(set(3)), "offices 0, 1 (Hamburg)");
+        assert_eq!(names.offices(set(5)), "offices 0 2");
         assert_eq!(names.list(set(0)), "none");
     }
 }

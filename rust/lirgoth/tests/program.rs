@@ -99,8 +99,11 @@ fn from_a_chart_typed_by_hand_to_a_card_and_a_picture() {
     let card = fs::read(folder.path("site/network.card")).expect("it was written");
     let network = agreement::read_card(&card).expect("the library reads it");
     assert_eq!((network.n, network.f), (5, 1));
-    assert!(network.linked(0, 2) && network.linked(2, 0));
-    assert!(network.linked(0, 3) && network.linked(3, 0) && !network.linked(4, 0));
+    // It is the network of the site dry-bulk.
+    assert_eq!(
+        card,
+        fs::read(example("dry-bulk") + "/network.card").expect("it is there")
+    );
     assert_eq!(lirgoth(&["card", &chart]).stdout, card);
     let hex = out(&["card", "--hex", &chart], ANSWERED);
     assert!(hex.starts_with("01 05 01\n02 00 02\n02 00 03\n"), "{hex}");
@@ -134,6 +137,31 @@ fn from_a_chart_typed_by_hand_to_a_card_and_a_picture() {
         missing.contains(&format!("{site}/network.plan is missing")),
         "{missing}"
     );
+}
+
+/// The chart that README.md has an installer type, and the plan that it goes on with.
+#[test]
+fn the_installers_way_of_the_readme() {
+    let readme = Path::new(env!("CARGO_MANIFEST_DIR")).join("../../README.md");
+    let readme = fs::read_to_string(readme).expect("it is there");
+    let lines = readme
+        .lines()
+        .map(|line| line.strip_prefix("       ").unwrap_or_default());
+    let chart = lines
+        .skip_while(|line| *line != "# dry-bulk desk")
+        .take_while(|line| !line.is_empty());
+    let chart = chart.collect::<Vec<&str>>().join("\n");
+    let folder = Folder::with(&[("desk.chart", chart.as_bytes())]);
+    let (chart, site) = (folder.shown("desk.chart"), folder.shown("desk"));
+    out(&["card", &chart, "--site", &site], ANSWERED);
+    let plan = example("dry-bulk") + "/network.plan";
+    fs::copy(plan, folder.path("desk/network.plan")).expect("the folder can be written to");
+    let drill = [
+        "drill", &site, "--faulty", "Lima", "--inputs", "11010", "--lies", "split", "--write",
+    ];
+    out(&drill, ANSWERED);
+    assert!(out(&["explain", &site], ANSWERED)
+        .ends_with("office 4 (Dakar) entered open and shows closed\n"));
 }
 
 #[test]

@@ -2,7 +2,7 @@
 
 /// Why a card, a plan or a call is turned back.
 ///
-/// `number` is the ground's number in the specification's table. `place` is the
+/// `number` is the ground's number in the table of docs/FORMATS.md. `place` is the
 /// position of the command byte at fault in the card or plan; the table says what
 /// stands there when no such command exists.
 #[derive(Debug, Clone, Copy, PartialEq, Eq)]
@@ -15,7 +15,7 @@ pub enum Refusal {
     Call { number: u8 },
 }
 
-/// The numbers of the specification's table of refusals.
+/// The numbers of the table of refusals in docs/FORMATS.md.
 pub(crate) mod ground {
     /// Card or plan over its length.
     pub const TOO_LONG: u8 = 1;

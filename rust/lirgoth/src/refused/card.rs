@@ -1,13 +1,11 @@
 //! Refusals of a card in words.
 
 use super::{cut, too_long, trailing};
-use agreement::CardGround;
+use agreement::{CardGround, CARD_LIMIT};
 
 const HEAD: u8 = 0x01;
 const LINK: u8 = 0x02;
 const END: u8 = 0x03;
-/// How many bytes a card has at most.
-const CARD_LIMIT: usize = 1_024;
 
 fn operands(command: u8) -> Option<usize> {
     match command {

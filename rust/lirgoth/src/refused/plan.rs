@@ -3,10 +3,7 @@
 use super::{cut, ordinal, too_long, trailing};
 use crate::names::Names;
 use crate::plan::{self, Due, DueBlock, Opening, Place, BLOCK, END, FILL};
-use agreement::{Network, PlanGround, ServerSet};
-
-/// How many bytes a plan has at most.
-const PLAN_LIMIT: usize = 1_048_576;
+use agreement::{Network, PlanGround, ServerSet, PLAN_LIMIT};
 
 /// Why the plan is refused on that ground at that place.
 pub(super) fn why(
