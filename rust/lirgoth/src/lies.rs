@@ -243,7 +243,7 @@ mod tests {
     #[test]
     fn a_run_is_played_as_the_library_runs_it() {
         let mut rng = Rng::new(3);
-        for round in 0..400 {
+        for round in 0..120 {
             let (n, f) = [(3, 0), (4, 1), (5, 1), (7, 2)][round % 4];
             let card = good_card(&mut rng, n, f).expect("n is over 3f");
             let bytes = generate::plan(&mut rng, &card).expect("a good network has a plan");

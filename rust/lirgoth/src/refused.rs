@@ -166,7 +166,7 @@ mod tests {
         let mut rng = Rng::new(5);
         let mut told = [0; 12];
         let names = Names::default();
-        for round in 0..6_000 {
+        for round in 0..3_000 {
             let (n, f) = [(2, 0), (3, 0), (4, 1), (5, 1)][round % 4];
             let card = good_card(&mut rng, n, f).expect("n is over 3f");
             let network = agreement::read_card(&card).expect("a sound card");

@@ -144,6 +144,9 @@ fn from_a_chart_typed_by_hand_to_a_card_and_a_picture() {
 fn the_installers_way_of_the_readme() {
     let readme = Path::new(env!("CARGO_MANIFEST_DIR")).join("../../README.md");
     let readme = fs::read_to_string(readme).expect("it is there");
+    let tanker = fs::read_to_string(example("tanker") + "/expected/explain.txt");
+    let tanker = tanker.expect("stored words");
+    assert!(readme.contains(tanker.lines().last().expect("a refusal in words")));
     let lines = readme
         .lines()
         .map(|line| line.strip_prefix("       ").unwrap_or_default());
