@@ -1,5 +1,5 @@
 /*
- * The agreement library: card reader, split test, plan check and run.
+ * The agreement library for x86-64 Linux (System V ABI): card reader, split test, plan check, run.
  *
  * The library is written in Rattle and proved: every function below meets the contract that is
  * written above it, for all arguments. It allocates nothing, keeps no state and calls nothing, so
@@ -12,9 +12,10 @@
  *   - `answer` points to 4, 5 or 12 words, as the declaration says, which the call fills.
  *   - The bytes and words that a call writes (`lent`, `answer`) lie apart from each other and from
  *     everything that it reads.
+ *   - AGREEMENT_STACK bytes of stack are left.
  *   These are all the demands. Bytes may have any values and lists any length.
  *
- * What a card, a plan, a faulty set and a message table are is paper 01's matter. In short: servers
+ * docs/FORMATS.md says what a card, a plan, a faulty set and a message table are. In short: servers
  * are 0 to n-1, n from 2 to 8; f, from 0 to 2, bounds how many are faulty; a set of servers is one
  * byte, server i standing for 2^i.
  *
@@ -29,7 +30,8 @@
  *
  *   number  when
  *    1      card or plan over its length (1,024 and 1,048,576 bytes), place 0
- *    2      unknown command, or a command or its operands cut off
+ *    2      unknown command, or a command or its operands cut off; where no command is left, the
+ *           place is the length of the file
  *    3      bytes follow the end command; the place is that of the first of them
  *    4      card: the first command is not 01, or 01 again
  *    5      card: n, f or a server out of range, or a link from a server to itself
@@ -54,6 +56,14 @@
 extern "C" {
 #endif
 
+/* The version of this header. */
+#define AGREEMENT_VERSION_MAJOR 0
+#define AGREEMENT_VERSION_MINOR 1
+#define AGREEMENT_VERSION_PATCH 0
+#define AGREEMENT_VERSION \
+    (UINT64_C(1000000) * AGREEMENT_VERSION_MAJOR + UINT64_C(1000) * AGREEMENT_VERSION_MINOR + \
+     AGREEMENT_VERSION_PATCH)
+
 enum {
     AGREEMENT_ANSWERED = 0,
     AGREEMENT_BAD_SPLIT = 1,
@@ -66,38 +76,73 @@ enum {
     AGREEMENT_CALL = 2
 };
 
-/* The longest n: a buffer of so many bytes is never refused 14. */
+/* The refusals' numbers; the table above says when. */
+enum {
+    AGREEMENT_TOO_LONG = 1,
+    AGREEMENT_CUT_OFF = 2,        /* an unknown command too */
+    AGREEMENT_TRAILING_BYTES = 3,
+    AGREEMENT_BAD_HEAD = 4,       /* 01 is not first, or not the only one */
+    AGREEMENT_OUT_OF_RANGE = 5,   /* a link from a server to itself too */
+    AGREEMENT_LINK_TWICE = 6,
+    AGREEMENT_NOT_DUE = 7,        /* a command, or the F and A of a block */
+    AGREEMENT_BAD_QUORUM = 8,     /* the S of a block */
+    AGREEMENT_BAD_ROUTE = 9,
+    AGREEMENT_SHARED_SERVER = 10, /* between two routes to one receiver */
+    AGREEMENT_BAD_REPORT = 11,    /* its k or its N */
+    AGREEMENT_BAD_INPUTS = 12,
+    AGREEMENT_BAD_FAULTY_SET = 13,
+    AGREEMENT_SHORT_BUFFER = 14   /* `lent` */
+};
+
+/* The largest n: a buffer of so many bytes is never refused 14. */
 #define AGREEMENT_SERVERS 8
 
 /*
+ * The bytes of stack that a call needs at most. The frames along the calls in the archive add up to
+ * 2,288 bytes at the deepest, in agreement_run; the most that a call used, on the example sites and
+ * on damaged versions of them, was 2,194. `sh tools/stack` does both again.
+ */
+#define AGREEMENT_STACK 4096
+
+/*
+ * The version of the library that is linked, 1,000,000 * major + 1,000 * minor + patch. Where it is
+ * not AGREEMENT_VERSION, the library is not the one that this header describes.
+ */
+uint64_t agreement_version(void);
+
+/*
  * Reads a network card.
- * answer: 0, n, f, 0 and eight rows. Row u, the word answer[4 + u], is the set of servers that u has
- * a link to: server v is in it exactly if the card has a link from u to v. So it has servers of the
- * network only, u is not in it, and it is 0 where u is no server.
+ * answer: 0, n, f, 0 and eight rows. Row u, the word answer[4 + u], is the set of servers that u
+ * has a link to: server v is in it exactly if the card has a link from u to v. So it has servers of
+ * the network only, u is not in it, and it is 0 where u is no server.
  * Or answer: 2, AGREEMENT_CARD, number, place and eight zeros.
  */
 void agreement_read_card(const uint8_t *card, size_t card_length, uint64_t answer[12]);
 
 /*
  * The split test: can the servers of this network agree, whichever f of them fail?
- * answer: 0, 0, 0, 0, 0 if they can, which is so exactly if the network meets Theorem 1 of Tseng and
- * Vaidya; 1, F, L, C, R, the first split that breaks it, in the order of F, then L, then R; or
+ * answer: 0, 0, 0, 0, 0 if they can, which is so exactly if the network meets Theorem 1 of Tseng
+ * and Vaidya; 1, F, L, C, R, the first split that breaks it, in the order of F, then L, then R; or
  * 2, AGREEMENT_CARD, number, place, 0.
  */
 void agreement_split_test(const uint8_t *card, size_t card_length, uint64_t answer[5]);
 
 /*
  * The plan check: does the plan meet the route rules for the card's network?
- * answer: 0, blocks, carriages, 0 exactly if it does; or 2, AGREEMENT_CARD or AGREEMENT_PLAN, number,
- * place.
+ * answer: 0, blocks, carriages, 0 exactly if it does; or 2, AGREEMENT_CARD or AGREEMENT_PLAN,
+ * number, place.
  */
 void agreement_check_plan(const uint8_t *card, size_t card_length, const uint8_t *plan,
                           size_t plan_length, uint64_t answer[4]);
 
 /*
- * The run: Algorithm BC with the plan's choices. `inputs` has each server's bit, `faulty` the servers
- * that fail, and `table` what arrives by each carriage that a faulty server has spoiled: the byte of
- * the carriage's number, 0 or 1, any other and a missing one counting as unsure.
+ * The run: Algorithm BC with the plan's choices. It plays the whole network at once, with what the
+ * faulty servers do as an argument. That is for rehearsals, comparisons and drills: it is not a
+ * server's own part in a live network.
+ *
+ * `inputs` has each server's bit, `faulty` the servers that fail, and `table` what arrives by each
+ * carriage that a faulty server has spoiled: the byte of the carriage's number, 0 or 1, any other
+ * and a missing one counting as unsure.
  *
  * answer: 0, blocks, carriages, 0. Then the first n bytes of `lent` are the decided bits, 2 for a
  * faulty server, and its later bytes are as they were. The bits of all servers that are not faulty

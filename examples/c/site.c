@@ -84,21 +84,14 @@ static void explain_split(const uint64_t rows[], const uint64_t split[], uint64_
     explain_side(rows, split[4], split[1], f);
 }
 
-int main(int argc, char **argv)
+/* What the library says of a site; the first refusal or bad split is the last word. */
+static void show(struct file card, struct file plan, struct file run_in)
 {
-    if (argc != 2) {
-        fputs("usage: site FOLDER\n", stderr);
-        return 2;
-    }
-    struct file card = read_file(argv[1], "network.card");
-    struct file plan = read_file(argv[1], "network.plan");
-    struct file run_in = read_file(argv[1], "run.in");
-
     uint64_t network[12];
     agreement_read_card(card.bytes, card.length, network);
     if (network[0] == AGREEMENT_REFUSED) {
         print_refusal(network);
-        return 0;
+        return;
     }
     uint64_t n = network[1];
     uint64_t f = network[2];
@@ -109,7 +102,7 @@ int main(int argc, char **argv)
     agreement_split_test(card.bytes, card.length, split);
     if (split[0] == AGREEMENT_BAD_SPLIT) {
         explain_split(rows, split, f);
-        return 0;
+        return;
     }
     puts("no bad split: the offices can agree");
 
@@ -117,7 +110,7 @@ int main(int argc, char **argv)
     agreement_check_plan(card.bytes, card.length, plan.bytes, plan.length, checked);
     if (checked[0] == AGREEMENT_REFUSED) {
         print_refusal(checked);
-        return 0;
+        return;
     }
     printf("plan accepted: %" PRIu64 " blocks, %" PRIu64 " carriages\n", checked[1], checked[2]);
 
@@ -131,11 +124,27 @@ int main(int argc, char **argv)
                   first + inputs, after - inputs, lent, sizeof lent, ran);
     if (ran[0] == AGREEMENT_REFUSED) {
         print_refusal(ran);
-        return 0;
+        return;
     }
     for (uint64_t i = 0; i < n; i++)
         printf("office %" PRIu64 " %s\n", i,
                lent[i] == 2 ? "fails" : lent[i] == 1 ? "shows closed" : "shows open");
+}
+
+int main(int argc, char **argv)
+{
+    if (argc != 2) {
+        fputs("usage: site FOLDER\n", stderr);
+        return 2;
+    }
+    if (agreement_version() != AGREEMENT_VERSION) {
+        fputs("agreement.h and libagreement.a are not of one version\n", stderr);
+        return 2;
+    }
+    struct file card = read_file(argv[1], "network.card");
+    struct file plan = read_file(argv[1], "network.plan");
+    struct file run_in = read_file(argv[1], "run.in");
+    show(card, plan, run_in);
     free(card.bytes);
     free(plan.bytes);
     free(run_in.bytes);

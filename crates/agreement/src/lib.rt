@@ -19,6 +19,15 @@ ghost use Rattle.network.specs.Rows.{rowsOf};
 ghost use Rattle.network.specs.Split.{splitTest};
 ghost use Rattle.plan.specs.Check.{totals, checkPlan};
 ghost use Rattle.agreement.specs.Words.{refusedWords, cardWords, splitWords, planWords, RunWords};
+ghost use Rattle.agreement.specs.Version.{version};
+
+// The version of this library: 1,000,000 * major + 1,000 * minor + patch.
+#[no_mangle]
+pub extern "C" fn agreement_version() -> u64
+    ensures { λ r. ⌜ r ≡ version ⌝ }
+{
+    1_000
+}
 
 // 2, what is at fault, the refusal's number, its place.
 fn refused_words(r: Refusal) -> [u64; 4]

@@ -1,0 +1,191 @@
+/*
+ * How deep each function of the C interface goes into its stack.
+ *
+ *     stack FOLDER..
+ *
+ * Every call runs on a painted stack of its own, on the files of the site folders and on damaged
+ * versions of them: cut short at every place, and with every byte changed in three ways. What has
+ * lost its paint was used. A call that leaves the stack meets a page that it may not touch. The
+ * figures count from the calling function's frame on, so that the call's own arguments are in them.
+ *
+ * Status 1 where a function uses more than AGREEMENT_STACK.
+ */
+#define _GNU_SOURCE
+#include "agreement.h"
+
+#include <stdio.h>
+#include <stdlib.h>
+#include <string.h>
+#include <sys/mman.h>
+#include <ucontext.h>
+#include <unistd.h>
+
+/* Four times what a call may use, so that one that uses more is seen and not only stopped. */
+enum { SIZE = 4 * AGREEMENT_STACK, PAINT = 0xA5, FILE_MOST = 70000 };
+
+enum function { VERSION, READ_CARD, SPLIT_TEST, CHECK_PLAN, RUN, FUNCTIONS };
+
+static const char *const names[FUNCTIONS] = {
+    "agreement_version", "agreement_read_card", "agreement_split_test", "agreement_check_plan",
+    "agreement_run"};
+
+struct list {
+    uint8_t bytes[FILE_MOST];
+    size_t length;
+};
+
+/* What a call hands over. It is static, so that the calling function has next to no frame. */
+static struct list card, plan, run_in;
+static const uint8_t *inputs, *table;
+static size_t inputs_length, table_length, lent_length;
+static uint8_t faulty, lent[2 * AGREEMENT_SERVERS];
+static uint64_t answer[12];
+static enum function function;
+
+static ucontext_t caller, callee;
+static uint8_t *stacks[FUNCTIONS];
+static const uint8_t *frames[FUNCTIONS];
+
+static void call(void)
+{
+    frames[function] = __builtin_frame_address(0);
+    switch (function) {
+    case VERSION:
+        answer[0] = agreement_version();
+        break;
+    case READ_CARD:
+        agreement_read_card(card.bytes, card.length, answer);
+        break;
+    case SPLIT_TEST:
+        agreement_split_test(card.bytes, card.length, answer);
+        break;
+    case CHECK_PLAN:
+        agreement_check_plan(card.bytes, card.length, plan.bytes, plan.length, answer);
+        break;
+    default:
+        agreement_run(card.bytes, card.length, plan.bytes, plan.length, inputs, inputs_length,
+                      faulty, table, table_length, lent, lent_length, answer);
+        break;
+    }
+}
+
+static void fail(const char *what)
+{
+    perror(what);
+    exit(2);
+}
+
+static void call_apart(enum function which)
+{
+    function = which;
+    if (getcontext(&callee) != 0)
+        fail("getcontext");
+    callee.uc_stack.ss_sp = stacks[which];
+    callee.uc_stack.ss_size = SIZE;
+    callee.uc_link = &caller;
+    makecontext(&callee, call, 0);
+    if (swapcontext(&caller, &callee) != 0)
+        fail("swapcontext");
+}
+
+/* A painted stack that grows down to a page that may not be touched. */
+static uint8_t *painted_stack(void)
+{
+    size_t page = (size_t)sysconf(_SC_PAGESIZE);
+    uint8_t *guard =
+        mmap(NULL, page + SIZE, PROT_READ | PROT_WRITE, MAP_PRIVATE | MAP_ANONYMOUS, -1, 0);
+    if (guard == MAP_FAILED || mprotect(guard, page, PROT_NONE) != 0)
+        fail("a stack");
+    return memset(guard + page, PAINT, SIZE);
+}
+
+static size_t used(enum function which)
+{
+    const uint8_t *lowest = stacks[which];
+    while (*lowest == PAINT)
+        lowest++;
+    return (size_t)(frames[which] - lowest);
+}
+
+/* run.in is the faulty set, the n inputs and the message table. */
+static void call_run(void)
+{
+    call_apart(READ_CARD);
+    uint64_t n = answer[0] == AGREEMENT_ANSWERED ? answer[1] : 0;
+    faulty = run_in.length > 0 ? run_in.bytes[0] : 0;
+    size_t after = run_in.length > 0 ? run_in.length - 1 : 0;
+    inputs = run_in.bytes + (run_in.length > 0);
+    inputs_length = after < n ? after : (size_t)n;
+    table = inputs + inputs_length;
+    table_length = after - inputs_length;
+    call_apart(RUN);
+}
+
+static void call_all(void)
+{
+    call_apart(VERSION);
+    call_apart(SPLIT_TEST);
+    call_apart(CHECK_PLAN);
+    call_run();
+}
+
+/* Damages one file in every way, with the others as they are. */
+static void damage(struct list *file)
+{
+    size_t length = file->length;
+    for (file->length = 0; file->length < length; file->length++)
+        call_all();
+    for (size_t i = 0; i < length; i++) {
+        uint8_t old = file->bytes[i];
+        const uint8_t changed[] = {0xFF, (uint8_t)(old + 1), (uint8_t)(old ^ 0x10)};
+        for (size_t k = 0; k < sizeof changed; k++) {
+            file->bytes[i] = changed[k];
+            call_all();
+        }
+        file->bytes[i] = old;
+    }
+}
+
+/* A file that is not there counts as empty, but a site has a card. */
+static void read_list(struct list *list, const char *folder, const char *name)
+{
+    char path[4096];
+    snprintf(path, sizeof path, "%s/%s", folder, name);
+    FILE *stream = fopen(path, "rb");
+    list->length = 0;
+    if (stream != NULL) {
+        list->length = fread(list->bytes, 1, sizeof list->bytes, stream);
+        fclose(stream);
+    } else if (list == &card) {
+        fail(path);
+    }
+}
+
+int main(int argc, char **argv)
+{
+    if (argc < 2) {
+        fputs("usage: stack FOLDER..\n", stderr);
+        return 2;
+    }
+    for (int i = 0; i < FUNCTIONS; i++)
+        stacks[i] = painted_stack();
+    for (int i = 1; i < argc; i++) {
+        read_list(&card, argv[i], "network.card");
+        read_list(&plan, argv[i], "network.plan");
+        read_list(&run_in, argv[i], "run.in");
+        for (lent_length = 0; lent_length < sizeof lent; lent_length++)
+            call_all();
+        damage(&card);
+        damage(&plan);
+        damage(&run_in);
+    }
+    int over = 0;
+    for (int i = 0; i < FUNCTIONS; i++) {
+        size_t bytes = used((enum function)i);
+        printf("%-22s uses %4zu bytes of stack\n", names[i], bytes);
+        over |= bytes > AGREEMENT_STACK;
+    }
+    if (over)
+        printf("stack: more than AGREEMENT_STACK, %d bytes\n", AGREEMENT_STACK);
+    return over;
+}
