@@ -37,6 +37,7 @@ pub use refusal::{CallGround, CardGround, PlanGround, Refusal};
 pub use servers::{Members, ServerSet};
 
 use answers::UNWRITTEN;
+use std::fmt::{self, Display, Formatter};
 
 /// How many bytes a card has at most.
 pub const CARD_LIMIT: usize = 1_024;
@@ -89,6 +90,37 @@ pub struct Split {
 pub struct Totals {
     pub blocks: usize,
     pub carriages: usize,
+}
+
+/// A version of the library.
+#[derive(Debug, Clone, Copy, PartialEq, Eq, PartialOrd, Ord)]
+pub struct Version {
+    pub major: u64,
+    pub minor: u64,
+    pub patch: u64,
+}
+
+/// `0.1.0`.
+impl Display for Version {
+    fn fmt(&self, out: &mut Formatter) -> fmt::Result {
+        write!(out, "{}.{}.{}", self.major, self.minor, self.patch)
+    }
+}
+
+/// The version of the linked library. It is that of this crate where the two belong
+/// together.
+///
+/// ```
+/// assert_eq!(agreement::version().to_string(), "0.1.0");
+/// ```
+pub fn version() -> Version {
+    // SAFETY: the function takes nothing and touches no memory.
+    let number = unsafe { library::agreement_version() };
+    Version {
+        major: number / 1_000_000,
+        minor: number / 1_000 % 1_000,
+        patch: number % 1_000,
+    }
 }
 
 /// Answers with the network that `card` describes, or with the first fault found
@@ -240,6 +272,11 @@ mod tests {
 
     /// The card of P1 (docs/FORMATS.md has the cases P1 to P10): two servers, no faults, one link from 0 to 1.
     const P1: [u8; 7] = [0x01, 0x02, 0x00, 0x02, 0x00, 0x01, 0x03];
+
+    #[test]
+    fn wrapper_and_library_are_of_one_version() {
+        assert_eq!(version().to_string(), env!("CARGO_PKG_VERSION"));
+    }
 
     const fn card_cut(place: usize) -> Refusal {
         let ground = CardGround::Cut;

@@ -1,6 +1,9 @@
 //! The exported functions of `libagreement.a`, as include/agreement.h declares them.
 
 extern "C" {
+    /// 1,000,000 * major + 1,000 * minor + patch.
+    pub fn agreement_version() -> u64;
+
     /// Writes {0, n, f, 0} and eight rows, or {2, whose, number, place} for a
     /// refusal and eight zeros.
     pub fn agreement_read_card(card: *const u8, length: usize, answer: *mut [u64; 12]);

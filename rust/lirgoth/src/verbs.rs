@@ -86,7 +86,8 @@ const VERBS: [Verb; 8] = [
 ];
 
 fn version() -> String {
-    format!("lirgoth {}\n", env!("CARGO_PKG_VERSION"))
+    let library = agreement::version();
+    format!("lirgoth {}, library {library}\n", env!("CARGO_PKG_VERSION"))
 }
 
 /// What a verb answers that takes a site and nothing else.
