@@ -1,5 +1,7 @@
 //! The installer's program.
 
 mod names;
+#[allow(dead_code)]
+mod picture;
 
 fn main() {}
