@@ -1,5 +1,121 @@
+//! A site's network as an SVG picture, for an installer who has never seen the site and knows no
+//! theory.
+//!
+//! It is made in three steps. What there is to show is gathered in [`Content`]: offices, `links`,
+//! `words` and the rows of the `legend`. Then everything gets its place: the offices by `ring`, the
+//! page by `layout`, each thing as one of `shapes`. Last, `draw` chooses colours and strokes and
+//! writes the elements. `text` knows how wide a text is, where it breaks and how XML writes it.
+//!
+//! A picture of something else starts from other content: the radius of each circle and the set
+//! that colours it are part of it, and all places follow from them.
+
+mod draw;
+mod layout;
+mod legend;
+mod links;
+mod ring;
+mod shapes;
+#[cfg(test)]
+mod tests;
+mod text;
+mod words;
+
 use crate::names::Names;
-use agreement::{Network, Split};
-pub fn svg(_network: &Network, _names: &Names, _split: Option<Split>) -> String {
-    String::new()
+use agreement::{Network, ServerSet, Split};
+use legend::Entry;
+use links::Link;
+
+/// An SVG file that shows `network`: its offices in a ring, its links, and in words whether the
+/// offices can agree. `split` is what the split test answers for the network; a bad split is shown
+/// with the reason why no plan can help.
+///
+/// The text is the same for the same arguments on every machine. A name with characters that XML
+/// cannot hold is drawn with replacement characters.
+pub fn svg(network: &Network, names: &Names, split: Option<Split>) -> String {
+    let content = content(network, names, split);
+    draw::document(&content, &layout::page(&content))
+}
+
+/// What a picture shows, before anything has a place.
+struct Content {
+    title: String,
+    verdict: String,
+    offices: Vec<Office>,
+    links: Vec<Link>,
+    legend: Vec<Entry>,
+    /// Sentences for those who have the picture read to them.
+    description: Vec<String>,
+}
+
+/// An office, the one of its place in the list.
+struct Office {
+    name: Option<String>,
+    part: Option<Part>,
+    /// Radius of its circle.
+    radius: f64,
+}
+
+/// The four sets of a bad split, in the order in which the legend explains them: first who stands
+/// aside, then the two sides.
+#[derive(Debug, Clone, Copy, PartialEq, Eq)]
+enum Part {
+    F,
+    C,
+    L,
+    R,
+}
+
+impl Part {
+    const ALL: [Part; 4] = [Part::F, Part::C, Part::L, Part::R];
+
+    fn letter(self) -> char {
+        match self {
+            Part::F => 'F',
+            Part::C => 'C',
+            Part::L => 'L',
+            Part::R => 'R',
+        }
+    }
+
+    fn members(self, split: &Split) -> ServerSet {
+        match self {
+            Part::F => split.f,
+            Part::C => split.c,
+            Part::L => split.l,
+            Part::R => split.r,
+        }
+    }
+
+    /// The set that `office` is in.
+    fn of(office: u8, split: &Split) -> Option<Part> {
+        Part::ALL
+            .into_iter()
+            .find(|part| part.members(split).contains(office))
+    }
+}
+
+fn content(network: &Network, names: &Names, split: Option<Split>) -> Content {
+    let clean: Vec<Option<String>> = (0..network.n)
+        .map(|office| names.name(office).and_then(text::clean))
+        .collect();
+    let in_prose = clean.iter().map(|name| name.as_deref().map(text::in_prose));
+    let names = Names::new(in_prose.collect());
+    let verdict = words::verdict(network, split.is_some());
+    let links = links::of(network, split);
+    let why = split.map_or(Vec::new(), |split| {
+        legend::of_split(network, &names, &split)
+    });
+    let office = |(office, name)| Office {
+        name,
+        part: split.and_then(|split| Part::of(office, &split)),
+        radius: ring::RADIUS,
+    };
+    Content {
+        title: words::title(network),
+        description: words::description(network, &names, &verdict, &links, &why),
+        verdict,
+        offices: (0..).zip(clean).map(office).collect(),
+        legend: legend::of_links(&links).into_iter().chain(why).collect(),
+        links,
+    }
 }
