@@ -1,12 +1,13 @@
 //! Drills: runs without a run.in, with offices that fail and lie as they are told.
 
 use crate::answer::{Answer, REFUSED};
-use crate::explain::{counted, shown, why_split, word};
+use crate::explain::{shown, why_split};
 use crate::lies::{self, first_half, Lies};
 use crate::names::Names;
 use crate::plan::{self, Block};
 use crate::refused;
 use crate::site::{Run, Site, Unreadable};
+use crate::words::{self, counted};
 use agreement::{Network, Refusal, ServerSet};
 
 /// A site with an accepted plan.
@@ -216,7 +217,7 @@ impl Drilled {
         {
             return Err(format!(
                 "all show {}, which no sound office had entered",
-                word(bit)
+                words::bit(bit)
             ));
         }
         Ok(())

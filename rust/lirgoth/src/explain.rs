@@ -3,9 +3,9 @@
 use crate::answer::Answer;
 use crate::names::Names;
 use crate::refused;
-use crate::refused::grouped;
 use crate::site::{Run, Site, Unreadable};
-use agreement::{Network, ServerSet, Split};
+use crate::words::{at_most, bit, can_agree, counted, hearing, SO};
+use agreement::{Network, Split};
 
 /// Answers the three questions in turn, as far as the site's files go.
 pub fn explain(site: &Site) -> Result<Answer, Unreadable> {
@@ -23,7 +23,7 @@ pub fn explain(site: &Site) -> Result<Answer, Unreadable> {
     answer.line(&size(&network));
 
     match agreement::split_test(&card) {
-        Ok(None) => answer.line(&can_agree(&network)),
+        Ok(None) => answer.line(&format!("no bad split: {}", can_agree(&network))),
         Ok(Some(split)) => {
             answer.text(&why_split(&network, &names, split));
             return Ok(answer.refused());
@@ -81,58 +81,18 @@ pub fn size(network: &Network) -> String {
     )
 }
 
-/// How many offices may fail.
-pub fn at_most(f: u8) -> String {
-    match f {
-        0 => "none may fail".to_string(),
-        _ => format!("at most {f} may fail"),
-    }
-}
-
-fn can_agree(network: &Network) -> String {
-    let whoever = match network.f {
-        0 => "",
-        1 => ", whichever one of them fails",
-        _ => ", whichever two of them fail",
-    };
-    format!("no bad split: the offices can agree{whoever}")
-}
-
 /// Why no plan can make the two sides of a bad split agree.
 pub fn why_split(network: &Network, names: &Names, split: Split) -> String {
     let Split { f, l, c, r } = split;
-    let meanwhile = match f.len() {
-        0 => String::new(),
-        1 => format!(", while {} fails", names.offices(f)),
-        _ => format!(", while {} fail", names.offices(f)),
-    };
     let mut text = format!(
-        "bad split (F {f}, L {l}, C {c}, R {r}): {} and {} could be split, one showing open and the other closed{meanwhile}\n",
+        "bad split (F {f}, L {l}, C {c}, R {r}): {} and {} could be split\n",
         names.offices(l),
         names.offices(r),
     );
-    for side in [l, r] {
-        text += &format!("  {}\n", hears(network, names, side, f));
+    for (letter, side) in [('L', l), ('R', r)] {
+        text += &format!("  {letter}: {}\n", hearing(side, network, names, &split));
     }
-    text + "no plan can help here: the network needs more links\n"
-}
-
-/// What one side of a bad split hears of the others.
-fn hears(network: &Network, names: &Names, side: ServerSet, failing: ServerSet) -> String {
-    let others = network.incoming(side) - failing;
-    let beside = match failing.is_empty() {
-        true => String::new(),
-        false => format!(", beside {},", names.list(failing)),
-    };
-    let verb = if side.len() == 1 { "hears" } else { "hear" };
-    let side = names.offices(side);
-    match others.len() {
-        0 => format!("{side} {verb}{beside} none of the others"),
-        _ => format!(
-            "{side} {verb}{beside} of the others only {}: no more than may fail, so that all of it may be false",
-            names.offices(others)
-        ),
-    }
+    text + "  " + SO + "\n"
 }
 
 /// What each office entered and what it shows after the run.
@@ -140,11 +100,11 @@ pub fn shown(network: &Network, names: &Names, run: &Run, lent: &[u8; 8]) -> Str
     let mut text = String::new();
     for office in network.servers() {
         let line = match lent[usize::from(office)] {
-            bit @ 0..=1 => format!(
+            shown @ 0..=1 => format!(
                 "{} entered {} and shows {}",
                 names.office(office),
-                word(run.inputs[usize::from(office)]),
-                word(bit)
+                bit(run.inputs[usize::from(office)]),
+                bit(shown)
             ),
             _ => format!("{} fails", names.office(office)),
         };
@@ -152,20 +112,4 @@ pub fn shown(network: &Network, names: &Names, run: &Run, lent: &[u8; 8]) -> Str
         text.push('\n');
     }
     text
-}
-
-/// What a bit stands for.
-pub fn word(bit: u8) -> &'static str {
-    match bit {
-        0 => "open",
-        _ => "closed",
-    }
-}
-
-/// `1 block`, `1,499 blocks`.
-pub fn counted(count: usize, what: &str) -> String {
-    match count {
-        1 => format!("1 {what}"),
-        _ => format!("{} {what}s", grouped(count)),
-    }
 }

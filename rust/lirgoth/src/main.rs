@@ -21,6 +21,7 @@ mod progress;
 mod refused;
 mod site;
 mod verbs;
+mod words;
 
 use answer::{Answer, UNUSABLE};
 use std::env;

@@ -1,6 +1,6 @@
 //! A line on standard error that says how far a long drill is.
 
-use crate::refused::grouped;
+use crate::words::grouped;
 use std::io::{self, IsTerminal, Write};
 use std::time::{Duration, Instant};
 

@@ -7,6 +7,7 @@ mod plan;
 
 use crate::names::Names;
 use crate::site::Run;
+use crate::words::grouped;
 use agreement::{CallGround, Network, Refusal};
 
 /// `refused card 5 at byte 3: ..`, for a card that the library refuses with `refusal`.
@@ -86,16 +87,6 @@ fn why_call(ground: CallGround, network: &Network, names: &Names, run: &Run) -> 
     }
 }
 
-/// A number as an ordinal: `first`, `second`, `third`.
-pub(crate) fn ordinal(index: usize) -> String {
-    match index {
-        0 => "first".to_string(),
-        1 => "second".to_string(),
-        2 => "third".to_string(),
-        _ => format!("{}th", index + 1),
-    }
-}
-
 /// What is wrong where a whole command should stand: nothing left, a byte that is no
 /// command, or operands cut off.
 fn cut(bytes: &[u8], place: usize, operands: fn(u8) -> Option<usize>, file: &str) -> String {
@@ -123,19 +114,6 @@ fn trailing(bytes: &[u8], place: usize) -> String {
         1 => "a byte follows the end command".to_string(),
         more => format!("{} bytes follow the end command", grouped(more)),
     }
-}
-
-/// A number with a comma after each three digits.
-pub(crate) fn grouped(number: usize) -> String {
-    let digits = number.to_string();
-    let mut text = String::new();
-    for (index, digit) in digits.chars().enumerate() {
-        if index > 0 && (digits.len() - index).is_multiple_of(3) {
-            text.push(',');
-        }
-        text.push(digit);
-    }
-    text
 }
 
 #[cfg(test)]
@@ -215,12 +193,5 @@ mod tests {
             told(CallGround::FaultSet, 17, &[1, 0, 1]),
             "refused call 13: the faulty set has office 4, and offices are 0 to 2"
         );
-    }
-
-    #[test]
-    fn numbers_are_written_in_groups_of_three() {
-        let numbers = [0, 7, 512, 1_024, 65_536, 1_048_577];
-        let written = ["0", "7", "512", "1,024", "65,536", "1,048,577"];
-        assert_eq!(numbers.map(grouped), written);
     }
 }

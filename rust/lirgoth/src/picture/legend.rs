@@ -55,7 +55,7 @@ pub fn of_split(network: &Network, names: &Names, split: &Split) -> Vec<Entry> {
         });
     iter::once(sentence(words::of_split(names, split)))
         .chain(parts)
-        .chain([sentence(words::SO.to_string())])
+        .chain([sentence(words::so())])
         .collect()
 }
 

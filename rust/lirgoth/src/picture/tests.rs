@@ -345,11 +345,11 @@ fn a_bad_split_is_explained() {
     let expected = [
         words::TWO_WAY,
         words::THICK,
-        "Offices 1 2 and offices 4 (New York) 5 could be split, for this reason:",
+        "Offices 1 2 and offices 4 (New York), 5 could be split, for this reason:",
         "Offices 0 3 are on neither side.",
         "Offices 1 2 hear, of all others, only office 0: no more than the one that may fail, \
          so that all they hear from outside may be false.",
-        "Offices 4 (New York) 5 hear, of all others, only office 3: no more than the one that \
+        "Offices 4 (New York), 5 hear, of all others, only office 3: no more than the one that \
          may fail, so that all they hear from outside may be false.",
         "So L could show open while R shows closed, and no plan can help.",
     ];
@@ -449,7 +449,7 @@ fn the_description_tells_the_whole_picture() {
     let network = network(3, 0, |u, v| u == 0 || (u, v) == (1, 0));
     let content = content(&network, &named(&["Oslo"]), None);
     let expected = [
-        "Offices 0 (Oslo) 1 2 in a ring.",
+        "Offices 0 (Oslo), 1, 2 in a ring.",
         "Two-way links: 0 and 1.",
         "One-way links: 0 to 2.",
         "The offices can agree, as long as none of them fails.",

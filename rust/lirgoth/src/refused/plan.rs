@@ -1,8 +1,9 @@
 //! Refusals of a plan in words: the block, the command in it, and the rule.
 
-use super::{cut, ordinal, too_long, trailing};
+use super::{cut, too_long, trailing};
 use crate::names::Names;
 use crate::plan::{self, Due, DueBlock, Opening, Place, BLOCK, END, FILL};
+use crate::words::ordinal;
 use agreement::{Network, PlanGround, ServerSet, PLAN_LIMIT};
 
 /// Why the plan is refused on that ground at that place.
