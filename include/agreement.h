@@ -97,6 +97,10 @@ enum {
 /* The largest n: a buffer of so many bytes is never refused 14. */
 #define AGREEMENT_SERVERS 8
 
+/* The most bytes that a card and a plan may have; longer ones are refused 1. */
+#define AGREEMENT_CARD_LIMIT 1024
+#define AGREEMENT_PLAN_LIMIT 1048576
+
 /*
  * The bytes of stack that a call needs at most. The frames along the calls in the archive add up to
  * 2,288 bytes at the deepest, in agreement_run; the most that a call used, on the example sites and
