@@ -9,6 +9,9 @@
 //! decide one bit, and it is the input of one of them. This is looked at in every
 //! answered call, and [`runs::search`] tries hard to make it fail.
 //!
+//! The numbers of the header and of the documents are held to the library too, in
+//! [`documents`]; the reference has no say there.
+//!
 //! The loops stand here and `tests/` calls them. Run them optimised, since they go
 //! through hundreds of thousands of cards, plans and calls and the reference scans
 //! every split:
@@ -22,6 +25,7 @@
 
 pub mod cards;
 pub mod converted;
+pub mod documents;
 pub mod plans;
 pub mod rehearsals;
 pub mod runs;

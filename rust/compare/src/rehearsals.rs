@@ -13,7 +13,7 @@ use std::process::Command;
 /// The names of the three files, in the order of the program.
 const FILES: [&str; 3] = ["network.card", "network.plan", "run.in"];
 /// A file with more bytes is too long.
-const FILE_LIMIT: usize = 65_536;
+pub(crate) const FILE_LIMIT: usize = 65_536;
 
 /// The three files of a site, `None` for one that is not there.
 type Files = [Option<Vec<u8>>; 3];

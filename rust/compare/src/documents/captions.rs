@@ -1,0 +1,255 @@
+//! What docs/FORMATS.md says above its examples, held to the bytes of the examples.
+
+use super::examples::{bytes, examples, Example};
+use super::library::*;
+use super::numbers::{listed, members, ordinal, quoted, word};
+use super::page::{Held, Page};
+use super::plans::{plan, shortest, MORE_THAN_F};
+use super::rehearsal::{rehearsed, Files};
+use super::{refusals, Documents};
+use agreement::{check_plan, read_card, CallGround, CardGround, PlanGround, Refusal, ServerSet};
+use generate::{all_links, complete_card, places};
+
+/// The sentences that go with the examples of a section; `None` if the examples are not
+/// of the kind that the sentences speak of.
+type Caption = fn(&[Example]) -> Option<Vec<String>>;
+
+pub fn stated(documents: &Documents) -> Held {
+    let page = &documents.formats;
+    page.says_all(&written())?;
+    page.says_all(&absent_files())?;
+    hold(
+        page,
+        "Carriages, and what the plan check answers",
+        carriages,
+    )?;
+    let captions: [(u8, Caption); 8] = [
+        (CardGround::Range.number(), out_of_range),
+        (PlanGround::NotDue.number(), not_due),
+        (PlanGround::Quorum.number(), quorum),
+        (PlanGround::Route.number(), route),
+        (PlanGround::Shared.number(), shared),
+        (PlanGround::Reporters.number(), reporters),
+        (CallGround::Inputs.number(), inputs),
+        (CallGround::FaultSet.number(), faulty_set),
+    ];
+    for (number, caption) in captions {
+        hold(page, refusals::title(page, number)?, caption)?;
+    }
+    Ok(())
+}
+
+fn hold(page: &Page, title: &str, caption: Caption) -> Held {
+    let section = page.section(title)?;
+    let heading = section.start - 1;
+    match caption(&examples(page, section)?) {
+        Some(sentences) => page.says_all(&sentences),
+        None => Err(page.fault(
+            heading,
+            "the examples are not those that the text speaks of",
+        )),
+    }
+}
+
+/// How bytes are written.
+fn written() -> Vec<String> {
+    let repeated = bytes("FF x 6").expect("bytes as the examples have them");
+    let (times, byte) = (word(repeated.len()), quoted(&repeated[..1]));
+    let lent = word(1);
+    vec![
+        format!("`FF x 6` stands for {times} times {byte}."),
+        format!("`buffer 1` means that the library's run is called with {lent} byte lent"),
+    ]
+}
+
+/// What is printed where a file is not there.
+fn absent_files() -> Vec<String> {
+    let (card, plan) = (complete_card(2, 0), plan(0, &shortest(2, 0)));
+    let printed = |card: &[u8], plan: &[u8]| {
+        let [card, plan] = [card, plan].map(<[u8]>::to_vec);
+        let run_in = Vec::new();
+        rehearsed(&Files { card, plan, run_in })
+            .trim_end()
+            .to_string()
+    };
+    let (no_card, no_plan) = (printed(&[], &[]), printed(&card, &[]));
+    let no_run = printed(&card, &plan);
+    vec![
+        format!("An empty or absent card is `{no_card}`."),
+        format!("an empty or absent plan is `{no_plan}`."),
+        format!("empty or absent `run.in` is `{no_run}`, once card and plan are accepted."),
+        "An empty `run.in` is faulty set 0 and no inputs.".to_string(),
+    ]
+}
+
+/// A and S of the first block.
+fn opened(plan: &[u8]) -> Option<[String; 2]> {
+    let [_, _, a, s, ..] = *plan else {
+        return None;
+    };
+    Some([a, s].map(|set| members(ServerSet::from_bits(set))))
+}
+
+fn carriages(examples: &[Example]) -> Option<Vec<String>> {
+    let [example] = examples else { return None };
+    let plan = &example.files.plan;
+    let [a, s] = opened(plan)?;
+    let due = [TO_S, FROM_S].map(|command| {
+        let count = word(places(plan, &[command]).len());
+        format!("{count} {}", quoted(&[command]))
+    });
+    let due = listed(due);
+    Some(vec![format!(
+        "In this plan A is {a} and S is {s}, so that {due} are due:"
+    )])
+}
+
+fn out_of_range(examples: &[Example]) -> Option<Vec<String>> {
+    let [of_n, of_f, of_v, of_both] = examples else {
+        return None;
+    };
+    let (n, f) = (of_n.files.card.get(1)?, of_f.files.card.get(2)?);
+    let (servers, v) = (listed(0..*of_v.files.card.get(1)?), of_v.files.card.get(5)?);
+    let (u, same) = (of_both.files.card.get(4)?, of_both.files.card.get(5)?);
+    let sentence = format!(
+        "n is {n}; f is {f}; v is {v}, while the servers are {servers}; u and v are both {same}:"
+    );
+    (u == same).then_some(vec![sentence])
+}
+
+fn not_due(examples: &[Example]) -> Option<Vec<String>> {
+    let [p6, early, stranger] = examples else {
+        return None;
+    };
+    let Files { card, plan, .. } = &p6.files;
+    let [a, s] = opened(plan)?;
+    let place = check_plan(card, plan).err()?.place()?;
+    let (due, found) = (
+        quoted(&[due_at(card, plan, place)?]),
+        quoted(&[plan[place]]),
+    );
+    let (server, n) = outside(stranger, 2)?;
+    let early = quoted(&early.files.plan);
+    Some(vec![
+        format!(
+            "In P6, A is {a} and S is {s}, so {due} is due at place {place}, and {found} is found."
+        ),
+        format!("Then {early} comes too early;"),
+        format!("then A has server {server}, where n is {n}:"),
+    ])
+}
+
+/// The one command that is not refused as not due at a place of the plan.
+fn due_at(card: &[u8], plan: &[u8], place: usize) -> Option<u8> {
+    let is_due = |command: &u8| {
+        let mut plan = plan.to_vec();
+        plan[place] = *command;
+        let ground = PlanGround::NotDue;
+        check_plan(card, &plan) != Err(Refusal::Plan { ground, place })
+    };
+    let mut due = (BLOCK..=PLAN_END).filter(is_due);
+    let first = due.next();
+    first.filter(|_| due.next().is_none())
+}
+
+/// The server outside V in a set of the first opening, and n.
+fn outside(example: &Example, at: usize) -> Option<(u8, u8)> {
+    let network = read_card(&example.files.card).ok()?;
+    let strangers = ServerSet::from_bits(*example.files.plan.get(at)?) - network.servers();
+    Some((strangers.iter().next()?, network.n))
+}
+
+fn quorum(examples: &[Example]) -> Option<Vec<String>> {
+    let [_, stranger] = examples else {
+        return None;
+    };
+    let (server, n) = outside(stranger, 3)?;
+    Some(vec![format!(
+        "S is empty; S has server {server}, where n is {n}:"
+    )])
+}
+
+fn route(examples: &[Example]) -> Option<Vec<String>> {
+    let [unlinked, _] = examples else {
+        return None;
+    };
+    let [from, to, ..] = *unlinked.files.plan.get(5..)? else {
+        return None;
+    };
+    let [u, v, ..] = *unlinked.files.card.get(4..)? else {
+        return None;
+    };
+    let fill = quoted(&[FILL]);
+    Some(vec![
+        format!(
+            "The route goes from {from} to {to}, and the card has only the link from {u} to {v};"
+        ),
+        format!("a server stands after the first {fill}:"),
+    ])
+}
+
+fn shared(examples: &[Example]) -> Option<Vec<String>> {
+    let [example] = examples else { return None };
+    let (f, plan) = (*example.files.card.get(2)?, &example.files.plan);
+    let servers = |place: usize| {
+        let operand = plan[place + 1..].iter().take(8);
+        let servers: Vec<u8> = operand.copied().filter(|&server| server != FILL).collect();
+        servers
+    };
+    let routes: Vec<Vec<u8>> = places(plan, &[FROM_S]).into_iter().map(servers).collect();
+    let arrows = |route: &Vec<u8>| listed(route).replace(", ", " → ").replace(" and ", " → ");
+    let (source, receiver) = (routes.first()?.first()?, routes.first()?.last()?);
+    let due = word(usize::from(f) + MORE_THAN_F);
+    let shown = listed(routes.iter().map(arrows));
+    Some(vec![
+        format!("f is {f}, so {due} routes to receiver {receiver} are due."),
+        format!("Both begin at server {source}: {shown}."),
+    ])
+}
+
+fn reporters(examples: &[Example]) -> Option<Vec<String>> {
+    let [example] = examples else { return None };
+    let Files { card, plan, .. } = &example.files;
+    let network = read_card(card).ok()?;
+    let (n, f, links) = (network.n, network.f, all_links(network.n));
+    let place = check_plan(card, plan).err()?.place()?;
+    let [report, k, neighbours] = *plan.get(place..)? else {
+        return None;
+    };
+    // Any other set of f+1 servers will do as well; the page names one.
+    let right = [report, k, 0x06];
+    let corrected = [&plan[..place], &right].concat();
+    let complete = links.iter().all(|&(u, v)| network.linked(u, v));
+    if !complete || check_plan(card, &corrected).err()?.place()? == place {
+        return None;
+    }
+    let last = places(plan, &[BLOCK]).len() - 1;
+    let (links, blocks, eighth) = (word(links.len()), word(last), ordinal(last));
+    let neighbours = ServerSet::from_bits(neighbours);
+    let (set, count) = (members(neighbours), word(neighbours.len()));
+    let due = word(usize::from(f) + MORE_THAN_F);
+    let (report, right, empty) = (quoted(&[report]), quoted(&right), quoted(&[0]));
+    Some(vec![
+        format!("A {report} comes only after all blocks of F {empty}, so the example is long:"),
+        format!("n {n} f {f} with all {links} links, {blocks} blocks,"),
+        format!("and the {eighth} up to its {report} at place {place}."),
+        format!("There N is {set}, {count} server where {due} are due. {right} would do."),
+    ])
+}
+
+fn inputs(examples: &[Example]) -> Option<Vec<String>> {
+    let [example] = examples else { return None };
+    let inputs = example.files.run_in.get(1..)?;
+    let server = inputs.iter().position(|&input| input > 1)?;
+    let input = inputs[server];
+    Some(vec![format!("The input of server {server} is {input}:")])
+}
+
+fn faulty_set(examples: &[Example]) -> Option<Vec<String>> {
+    let [example] = examples else { return None };
+    let faulty = listed(ServerSet::from_bits(*example.files.run_in.first()?));
+    let f = example.files.card.get(2)?;
+    Some(vec![format!(
+        "Server {faulty} is to be faulty, and f is {f}:"
+    )])
+}

@@ -1,0 +1,76 @@
+//! What a run writes, and what it takes from the message table.
+
+use super::library::*;
+use super::numbers::{listed, quoted};
+use super::page::Held;
+use super::plans::{plan, shortest};
+use super::steps::UNSURE;
+use super::Documents;
+use agreement::{run, ServerSet};
+use generate::complete_card;
+use std::sync::LazyLock;
+
+/// The byte of a faulty server in the lent buffer.
+pub const FAULTY: u8 = 2;
+
+/// Four servers, one of which fails, with every input list and a table of one byte all
+/// through: the bytes that the runs write.
+fn written(table: &[u8]) -> Vec<[u8; 4]> {
+    let (n, f) = (4, 1);
+    let (card, plan) = (complete_card(n, f), plan(f, &shortest(n, f)));
+    let mut all = Vec::new();
+    for (faulty, bits) in (0..n).flat_map(|faulty| (0..16).map(move |bits| (faulty, bits))) {
+        let inputs: [u8; 4] = std::array::from_fn(|server| bits >> server & 1);
+        let faulty = ServerSet::from_bits(1 << faulty);
+        let mut lent = [0; 4];
+        let answer = run(&card, &plan, &inputs, faulty, table, &mut lent);
+        let call = format!("faulty {faulty:?}, inputs {inputs:?}");
+        assert!(answer.is_ok(), "{call}: {answer:?}");
+        for (server, byte) in (0..n).zip(lent) {
+            let is_right = if faulty.contains(server) {
+                byte == FAULTY
+            } else {
+                byte <= 1
+            };
+            assert!(is_right, "{call}: {lent:?}");
+        }
+        all.push(lent);
+    }
+    all
+}
+
+/// The bytes of a message table that do the same as missing ones.
+static AS_MISSING: LazyLock<Span> = LazyLock::new(|| {
+    // More bytes than the plan has carriages.
+    let of_byte = |byte| written(&[byte; 1_000]);
+    let missing = written(&[]);
+    let is_missing = |byte: &u8| of_byte(*byte) == missing;
+    let alike: Vec<u8> = (0..=u8::MAX).filter(is_missing).collect();
+    assert_ne!(of_byte(0), of_byte(1), "a table of zeros and one of ones");
+    Span::over("a message that is none", &alike)
+});
+
+/// The sentences on bytes, bits and values.
+pub fn stated(documents: &Documents) -> Held {
+    let as_they_are = (0..AS_MISSING.least()).map(|byte| quoted(&[byte]));
+    let bits = listed(as_they_are);
+    let [first, last] = [AS_MISSING.least(), AS_MISSING.most()].map(|byte| quoted(&[byte]));
+    let [to_s, within_s, from_s, report] =
+        [TO_S, WITHIN_S, FROM_S, REPORT].map(|command| quoted(&[command]));
+    documents.formats.says_all(&[
+        format!("v of each sound server, {FAULTY} for a faulty one."),
+        format!("{bits} as they are, {first} to {last} as {UNSURE}, a missing byte as {UNSURE}."),
+        "Each server keeps a value v, 0 or 1, at first its input,".to_string(),
+        format!("and a working value t: 0, 1, or {UNSURE} for unsure."),
+        format!("t at first is {UNSURE}, and no step reads"),
+        format!("arrivals (by {to_s}) are alike, else {UNSURE}."),
+        format!("if every arrival (by {within_s}) equals it, else it becomes {UNSURE}."),
+        format!("as in step 2 (by {from_s})."),
+        "if t is 0 or 1, v becomes t.".to_string(),
+        format!("arrivals (by {report}), the values v after step 5, are alike and 0 or 1,"),
+        format!("Arrivals that are all {UNSURE} are alike."),
+        "X is 0 or 1, for a faulty server `faulty`".to_string(),
+        "inputs not n bytes of 0 or 1".to_string(),
+        "or one of them is not `00` or `01`, even that of a faulty server.".to_string(),
+    ])
+}

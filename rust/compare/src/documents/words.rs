@@ -1,0 +1,77 @@
+//! The words of the answers, as the header tells of them.
+//!
+//! What each word is cannot be seen through the wrapper, which has made types of them:
+//! here the header has to agree with itself and with the wrapper's declarations, and
+//! campaign/refusals.c asks the library by the header's names.
+
+use super::header::name;
+use super::library::{HEAD, SIZES};
+use super::numbers::word;
+use super::page::{Held, Page};
+use super::runs::FAULTY;
+use super::Documents;
+
+/// What the wrapper declares, and calls.
+const DECLARED: &str = include_str!("../../../agreement/src/library.rs");
+
+const FUNCTIONS: [&str; 4] = [
+    "agreement_read_card",
+    "agreement_split_test",
+    "agreement_check_plan",
+    "agreement_run",
+];
+
+/// The number after `before`, in the declaration of a function.
+fn words(text: &str, function: &str, before: &str) -> Option<usize> {
+    let (_, after) = text.split_once(&format!(" {function}("))?;
+    let (_, after) = after.split_once(before)?;
+    after.split(']').next()?.parse().ok()
+}
+
+/// The lengths of the answers, in the order of [`FUNCTIONS`].
+fn lengths(page: &Page) -> Result<[usize; 4], String> {
+    let text = page.lines.join("\n");
+    let mut lengths = [0; 4];
+    for (length, function) in lengths.iter_mut().zip(FUNCTIONS) {
+        let ours = words(DECLARED, function, "*mut [u64; ").expect("the wrapper's declaration");
+        if words(&text, function, "uint64_t answer[") != Some(ours) {
+            let is_there = |line: &String| line.contains(&format!(" {function}("));
+            let line = page.lines.iter().position(is_there).unwrap_or_default();
+            return Err(page.fault(line, format!("{function} answers with {ours} words")));
+        }
+        *length = ours;
+    }
+    Ok(lengths)
+}
+
+pub fn stated(documents: &Documents) -> Held {
+    let page = &documents.header;
+    let [reader, split, check, _] = lengths(page)?;
+    let of = |which: &str| name(page, which).map(|name| name.value);
+    let answered = of("AGREEMENT_ANSWERED")?;
+    let (bad_split, refused) = (of("AGREEMENT_BAD_SPLIT")?, of("AGREEMENT_REFUSED")?);
+    let servers = usize::from(SIZES.n.most());
+    let (eight, before_rows) = (word(servers), reader - servers);
+    let zeros = vec!["0"; split - 1].join(", ");
+    page.says_all(&[
+        format!("`answer` points to {check}, {split} or {reader} words"),
+        "a call's refusal has place 0.".to_string(),
+        format!("answer: {answered}, n, f, 0 and {eight} rows."),
+        format!("Row u, the word answer[{before_rows} + u],"),
+        "and it is 0 where u is no server.".to_string(),
+        format!("Or answer: {refused}, AGREEMENT_CARD, number, place and {eight} zeros."),
+        format!("answer: {answered}, {zeros} if they can"),
+        format!("; {bad_split}, F, L, C, R, the first split that breaks it"),
+        format!("or {refused}, AGREEMENT_CARD, number, place, 0."),
+        format!("answer: {answered}, blocks, carriages, 0 exactly if it does;"),
+        format!("or {refused}, AGREEMENT_CARD or AGREEMENT_PLAN, number, place."),
+        format!("answer: {answered}, blocks, carriages, 0. Then the first n bytes of `lent`"),
+        format!("are the decided bits, {FAULTY} for a faulty server"),
+        format!("Or answer: {refused}, what is at fault, number, place."),
+        format!("card: the first command is not {HEAD:02X}, or {HEAD:02X} again"),
+        format!("{HEAD:02X} is not first, or not the only one"),
+        "call: inputs not n bytes of 0 or 1".to_string(),
+        "servers are 0 to n-1,".to_string(),
+        "0 or 1, any other and a missing one counting as unsure.".to_string(),
+    ])
+}

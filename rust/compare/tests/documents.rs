@@ -1,0 +1,85 @@
+//! The numbers of the header and of the documents, held to the library; run with
+//! `cargo test --release`.
+//!
+//! Each test fails at the first number that is another and names its file and line.
+
+use compare::documents::{self, Check, Documents};
+
+fn hold(checks: &[Check]) {
+    let documents = Documents::read();
+    for check in checks {
+        if let Err(fault) = check(&documents) {
+            panic!("{fault}");
+        }
+    }
+}
+
+#[test]
+fn examples_are_answered_as_printed() {
+    hold(documents::EXAMPLES);
+}
+
+#[test]
+fn the_small_site_has_the_bytes_of_its_files() {
+    hold(documents::SITE);
+}
+
+#[test]
+fn refusals_have_the_numbers_of_the_wrapper() {
+    hold(documents::REFUSALS);
+}
+
+#[test]
+fn the_header_has_a_name_for_each_refusal() {
+    hold(documents::NAMES);
+}
+
+#[test]
+fn limits_are_those_of_the_library() {
+    documents::library_keeps_the_limits();
+    hold(documents::LIMITS);
+}
+
+#[test]
+fn commands_and_sets_have_their_bytes() {
+    hold(documents::BYTES);
+}
+
+#[test]
+fn blocks_are_counted_and_in_order() {
+    documents::library_takes_the_blocks();
+    hold(documents::BLOCKS);
+}
+
+#[test]
+fn cards_and_plans_are_as_long_as_they_can_be() {
+    documents::library_takes_the_lengths();
+    hold(documents::LENGTHS);
+}
+
+#[test]
+fn small_cases_are_answered_as_stated() {
+    hold(documents::CASES);
+}
+
+#[test]
+fn runs_go_as_stated() {
+    documents::library_takes_the_steps();
+    hold(documents::RUNS);
+}
+
+#[test]
+fn the_header_tells_the_words_of_its_answers() {
+    hold(documents::WORDS);
+}
+
+#[test]
+fn sentences_have_the_right_numbers() {
+    hold(documents::PHRASES);
+}
+
+#[test]
+fn every_number_is_held() {
+    let found = documents::not_held(&Documents::read());
+    assert!(found.is_empty(), "{}", found.join("\n"));
+}
