@@ -1,0 +1,334 @@
+/*
+ * Every refusal, met once for each file that has it, and the other answers beside them.
+ *
+ * The words of each answer are compared with the names of the header, never with numbers written
+ * here: so that each name has the library's number is seen as a C compiler sees it. A word past the
+ * answer must stay as it was, and so must the lent bytes of a refused call.
+ *
+ * Prints each answer that is another. Status 1 if there is one.
+ */
+#include "agreement.h"
+
+#include <inttypes.h>
+#include <stdio.h>
+#include <string.h>
+
+enum { UNTOUCHED = 0xA5, FILL = 0xFF, ROUTE_BYTES = 8, LENT = AGREEMENT_SERVERS + 1 };
+enum { HEAD = 0x01, LINK, CARD_END };
+enum { BLOCK = 0x10, TO_S, WITHIN_S, FROM_S, REPORT, PLAN_END };
+
+struct list {
+    const uint8_t *bytes;
+    size_t length;
+};
+
+#define BYTES(...) ((const uint8_t[]){__VA_ARGS__})
+#define LIST(...) ((struct list){BYTES(__VA_ARGS__), sizeof BYTES(__VA_ARGS__)})
+/* A route of two servers. */
+#define DIRECT(source, receiver) source, receiver, FILL, FILL, FILL, FILL, FILL, FILL
+
+/* More zeros than a card or a plan may have. */
+static uint8_t zeros[AGREEMENT_PLAN_LIMIT + 1];
+
+static struct list zeros_of(size_t length)
+{
+    return (struct list){zeros, length};
+}
+
+static int status;
+
+/* Holds an answer of so many words to the expected ones, and the word after it. */
+static void hold(const char *function, const char *what, const uint64_t *answer,
+                 const uint64_t *expected, size_t words)
+{
+    if (memcmp(answer, expected, words * sizeof *answer) == 0 && answer[words] == UNTOUCHED)
+        return;
+    printf("refusals: %s on %s answered", function, what);
+    for (size_t i = 0; i < words; i++)
+        printf(" %" PRIu64, answer[i]);
+    fputs(", and by the header", stdout);
+    for (size_t i = 0; i < words; i++)
+        printf(" %" PRIu64, expected[i]);
+    puts(answer[words] == UNTOUCHED ? "" : "; it wrote past its answer");
+    status = 1;
+}
+
+/* What a call answers: up to twelve words, and one that it must leave alone. */
+struct answer {
+    uint64_t words[13];
+};
+
+static struct answer blank(void)
+{
+    struct answer answer;
+    for (size_t i = 0; i < sizeof answer.words / sizeof *answer.words; i++)
+        answer.words[i] = UNTOUCHED;
+    return answer;
+}
+
+static void read_card(const char *what, struct list card, const uint64_t expected[12])
+{
+    struct answer answer = blank();
+    agreement_read_card(card.bytes, card.length, answer.words);
+    hold("agreement_read_card", what, answer.words, expected, 12);
+}
+
+static void split_test(const char *what, struct list card, const uint64_t expected[5])
+{
+    struct answer answer = blank();
+    agreement_split_test(card.bytes, card.length, answer.words);
+    hold("agreement_split_test", what, answer.words, expected, 5);
+}
+
+static void check_plan(const char *what, struct list card, struct list plan,
+                       const uint64_t expected[4])
+{
+    struct answer answer = blank();
+    agreement_check_plan(card.bytes, card.length, plan.bytes, plan.length, answer.words);
+    hold("agreement_check_plan", what, answer.words, expected, 4);
+}
+
+/* A call to run without its card and plan. */
+struct call {
+    struct list inputs;
+    uint8_t faulty;
+    size_t lent;
+};
+
+/* Runs, and holds the lent bytes: so many are written, and no others. */
+static void run(const char *what, struct list card, struct list plan, struct call call,
+                const uint64_t expected[4], size_t written)
+{
+    struct answer answer = blank();
+    uint8_t lent[LENT];
+    memset(lent, UNTOUCHED, sizeof lent);
+    agreement_run(card.bytes, card.length, plan.bytes, plan.length, call.inputs.bytes,
+                  call.inputs.length, call.faulty, zeros, 0, lent, call.lent, answer.words);
+    hold("agreement_run", what, answer.words, expected, 4);
+    for (size_t i = 0; i < sizeof lent; i++) {
+        if ((lent[i] != UNTOUCHED) != (i < written)) {
+            printf("refusals: agreement_run on %s: lent byte %zu is %u\n", what, i, lent[i]);
+            status = 1;
+        }
+    }
+}
+
+static const struct call two_servers = {{(const uint8_t[]){1, 0}, 2}, 0, AGREEMENT_SERVERS};
+
+static void card_refused(const char *what, struct list card, uint64_t number, uint64_t place)
+{
+    const uint64_t expected[12] = {AGREEMENT_REFUSED, AGREEMENT_CARD, number, place};
+    read_card(what, card, expected);
+    split_test(what, card, expected);
+    check_plan(what, card, zeros_of(0), expected);
+    run(what, card, zeros_of(0), two_servers, expected, 0);
+}
+
+static void plan_refused(const char *what, struct list card, struct list plan, uint64_t number,
+                         uint64_t place)
+{
+    const uint64_t expected[4] = {AGREEMENT_REFUSED, AGREEMENT_PLAN, number, place};
+    check_plan(what, card, plan, expected);
+    run(what, card, plan, two_servers, expected, 0);
+}
+
+static void call_refused(const char *what, struct list card, struct list plan, struct call call,
+                         uint64_t number)
+{
+    const uint64_t expected[4] = {AGREEMENT_REFUSED, AGREEMENT_CALL, number, 0};
+    run(what, card, plan, call, expected, 0);
+}
+
+static int has(unsigned set, unsigned server)
+{
+    return set >> server & 1;
+}
+
+/* The lowest servers of a set, so many of them. */
+static unsigned lowest(unsigned set, unsigned count)
+{
+    unsigned found = 0;
+    for (unsigned server = 0; count > 0 && server < AGREEMENT_SERVERS; server++)
+        if (has(set, server)) {
+            found |= 1u << server;
+            count--;
+        }
+    return found;
+}
+
+/* A card with all links. */
+static struct list complete_card(uint8_t n, uint8_t f)
+{
+    static uint8_t bytes[AGREEMENT_CARD_LIMIT];
+    size_t length = 0;
+    bytes[length++] = HEAD;
+    bytes[length++] = n;
+    bytes[length++] = f;
+    for (uint8_t u = 0; u < n; u++)
+        for (uint8_t v = 0; v < n; v++)
+            if (u != v) {
+                bytes[length++] = LINK;
+                bytes[length++] = u;
+                bytes[length++] = v;
+            }
+    bytes[length++] = CARD_END;
+    return (struct list){bytes, length};
+}
+
+/* A plan being written. */
+static uint8_t plan_bytes[AGREEMENT_PLAN_LIMIT];
+static size_t plan_length;
+
+static void put_routes(uint8_t command, unsigned sources, unsigned receiver)
+{
+    for (unsigned source = 0; source < AGREEMENT_SERVERS; source++)
+        if (has(sources, source)) {
+            plan_bytes[plan_length++] = command;
+            memset(plan_bytes + plan_length, FILL, ROUTE_BYTES);
+            plan_bytes[plan_length] = (uint8_t)source;
+            plan_bytes[plan_length + 1] = (uint8_t)receiver;
+            plan_length += ROUTE_BYTES;
+        }
+}
+
+/* A block in which S is A. */
+static void put_block(unsigned f, unsigned fault, unsigned rest, unsigned a)
+{
+    const uint8_t opening[] = {BLOCK, (uint8_t)fault, (uint8_t)a, (uint8_t)a};
+    memcpy(plan_bytes + plan_length, opening, sizeof opening);
+    plan_length += sizeof opening;
+    for (unsigned receiver = 0; receiver < AGREEMENT_SERVERS; receiver++)
+        if (has(a, receiver))
+            put_routes(WITHIN_S, a & ~(1u << receiver), receiver);
+    for (unsigned receiver = 0; receiver < AGREEMENT_SERVERS; receiver++)
+        if (has(rest & ~a, receiver))
+            put_routes(FROM_S, lowest(a, f + 1), receiver);
+    for (unsigned k = 0; k < AGREEMENT_SERVERS; k++)
+        if (has(fault, k)) {
+            plan_bytes[plan_length++] = REPORT;
+            plan_bytes[plan_length++] = (uint8_t)k;
+            plan_bytes[plan_length++] = (uint8_t)lowest(rest, f + 1);
+        }
+}
+
+/* A plan for all links with direct routes; counts its blocks. */
+static struct list direct_plan(unsigned n, unsigned f, uint64_t *blocks)
+{
+    unsigned all = (1u << n) - 1;
+    plan_length = 0;
+    *blocks = 0;
+    for (unsigned fault = 0; fault <= all; fault++) {
+        if (lowest(fault, f) != fault)
+            continue;
+        unsigned rest = all & ~fault;
+        for (unsigned part = 1; part < rest; part++) {
+            if ((part & ~rest) != 0 || (part & lowest(rest, 1)) == 0)
+                continue;
+            /* The routes of one receiver have f+1 sources. */
+            put_block(f, fault, rest, lowest(part, f) == part ? rest & ~part : part);
+            ++*blocks;
+        }
+    }
+    plan_bytes[plan_length++] = PLAN_END;
+    return (struct list){plan_bytes, plan_length};
+}
+
+static void cards(void)
+{
+    card_refused("a long card", zeros_of(AGREEMENT_CARD_LIMIT + 1), AGREEMENT_TOO_LONG, 0);
+    card_refused("a card at the limit", zeros_of(AGREEMENT_CARD_LIMIT), AGREEMENT_CUT_OFF, 0);
+    card_refused("an empty card", zeros_of(0), AGREEMENT_CUT_OFF, 0);
+    card_refused("a card with more after its end", LIST(HEAD, 2, 0, CARD_END, 0),
+                 AGREEMENT_TRAILING_BYTES, 4);
+    card_refused("a card without a head", LIST(CARD_END), AGREEMENT_BAD_HEAD, 0);
+    card_refused("one server more than there can be",
+                 LIST(HEAD, AGREEMENT_SERVERS + 1, 0, CARD_END), AGREEMENT_OUT_OF_RANGE, 0);
+    card_refused("a link twice", LIST(HEAD, 2, 0, LINK, 0, 1, LINK, 0, 1), AGREEMENT_LINK_TWICE,
+                 6);
+}
+
+static const uint8_t small_card[] = {HEAD, 2, 0, LINK, 0, 1, CARD_END};
+static const uint8_t small_plan[] = {BLOCK, 0, 1, 1, FROM_S, DIRECT(0, 1), PLAN_END};
+
+static void plans(struct list card)
+{
+    plan_refused("a long plan", card, zeros_of(AGREEMENT_PLAN_LIMIT + 1), AGREEMENT_TOO_LONG, 0);
+    plan_refused("a plan at the limit", card, zeros_of(AGREEMENT_PLAN_LIMIT), AGREEMENT_CUT_OFF,
+                 0);
+    plan_refused("a route cut off", card, LIST(FROM_S, 0, 1), AGREEMENT_CUT_OFF, 0);
+    plan_refused("a plan with more after its end", card,
+                 LIST(BLOCK, 0, 1, 1, FROM_S, DIRECT(0, 1), PLAN_END, 0),
+                 AGREEMENT_TRAILING_BYTES, sizeof small_plan);
+    plan_refused("a plan without blocks", card, LIST(PLAN_END), AGREEMENT_NOT_DUE, 0);
+    plan_refused("an empty S", card, LIST(BLOCK, 0, 1, 0), AGREEMENT_BAD_QUORUM, 0);
+    plan_refused("a route without a link", card, LIST(BLOCK, 0, 2, 2, FROM_S, DIRECT(1, 0)),
+                 AGREEMENT_BAD_ROUTE, 4);
+    struct list three = LIST(HEAD, 3, 1, LINK, 0, 1, LINK, 0, 2, LINK, 2, 1, CARD_END);
+    plan_refused("two routes from one source", three,
+                 LIST(BLOCK, 0, 1, 1, FROM_S, DIRECT(0, 1), FROM_S, DIRECT(0, 1)),
+                 AGREEMENT_SHARED_SERVER, 13);
+    uint64_t blocks;
+    struct list four = complete_card(4, 1), plan = direct_plan(4, 1, &blocks);
+    /* The last report stands before the end. */
+    plan_bytes[plan.length - 2] = 0;
+    plan_refused("a report of no server", four, plan, AGREEMENT_BAD_REPORT, plan.length - 4);
+}
+
+static void calls(struct list card, struct list plan)
+{
+    struct call call = two_servers;
+    call.inputs = LIST(1, 2);
+    call_refused("an input of 2", card, plan, call, AGREEMENT_BAD_INPUTS);
+    call = two_servers;
+    call.faulty = 1;
+    call_refused("a fault too many", card, plan, call, AGREEMENT_BAD_FAULTY_SET);
+    call = two_servers;
+    call.lent = 1;
+    call_refused("one byte lent to two servers", card, plan, call, AGREEMENT_SHORT_BUFFER);
+}
+
+/* The smallest site, and two servers without a link. */
+static void small_site(struct list card, struct list plan)
+{
+    const uint64_t network[12] = {AGREEMENT_ANSWERED, 2, 0, 0, 2};
+    const uint64_t none[5] = {AGREEMENT_ANSWERED};
+    const uint64_t split[5] = {AGREEMENT_BAD_SPLIT, 0, 1, 0, 2};
+    const uint64_t totals[4] = {AGREEMENT_ANSWERED, 1, 1, 0};
+    read_card("the small site", card, network);
+    split_test("the small site", card, none);
+    split_test("no links", LIST(HEAD, 2, 0, CARD_END), split);
+    check_plan("the small site", card, plan, totals);
+    run("the small site", card, plan, two_servers, totals, 2);
+}
+
+/* As many servers as there can be: they are read, and a buffer of so many bytes is enough. */
+static void most_servers(void)
+{
+    const uint64_t all = (1u << AGREEMENT_SERVERS) - 1;
+    /* Longer than the answer, so that there is room for a name that is too large. */
+    uint64_t network[12 + AGREEMENT_SERVERS] = {AGREEMENT_ANSWERED, AGREEMENT_SERVERS};
+    for (unsigned u = 0; u < AGREEMENT_SERVERS; u++)
+        network[4 + u] = all & ~(UINT64_C(1) << u);
+    uint64_t totals[4] = {AGREEMENT_ANSWERED};
+    struct list card = complete_card(AGREEMENT_SERVERS, 0);
+    struct list plan = direct_plan(AGREEMENT_SERVERS, 0, &totals[1]);
+    /* Without faults each route is a carriage, and there is nothing else but openings. */
+    totals[2] = (plan.length - 1 - 4 * totals[1]) / (1 + ROUTE_BYTES);
+    struct call call = {zeros_of(AGREEMENT_SERVERS), 0, AGREEMENT_SERVERS};
+    read_card("all servers", card, network);
+    check_plan("all servers", card, plan, totals);
+    run("all servers", card, plan, call, totals, AGREEMENT_SERVERS);
+    call.lent--;
+    call_refused("all servers and a byte too few", card, plan, call, AGREEMENT_SHORT_BUFFER);
+}
+
+int main(void)
+{
+    struct list card = {small_card, sizeof small_card}, plan = {small_plan, sizeof small_plan};
+    cards();
+    plans(card);
+    calls(card, plan);
+    small_site(card, plan);
+    most_servers();
+    return status;
+}
