@@ -103,8 +103,8 @@ enum {
 
 /*
  * The bytes of stack that a call needs at most. The frames along the calls in the archive add up to
- * 2,288 bytes at the deepest, in agreement_run; the most that a call used, on the example sites and
- * on damaged versions of them, was 2,194. `sh tools/stack` does both again.
+ * 2,288 bytes at the deepest, in agreement_run; no call on the example sites or on damaged versions
+ * of them was measured to use more. `sh tools/stack` does both again.
  */
 #define AGREEMENT_STACK 4096
 

@@ -42,7 +42,7 @@ const NOT_HELD: [&str; 27] = [
     "(UINT64_C(№) * AGREEMENT_VERSION_MAJOR + UINT64_C(№) *",
     "№ * major + № * minor + patch.",
     "AGREEMENT_STACK №",
-    "№ bytes at the deepest, in agreement_run; the most that a call used, on the example sites and on damaged versions of them, was №.",
+    "№ bytes at the deepest, in agreement_run;",
 ];
 
 /// The numbers that can be changed without any check noticing, but for those that
