@@ -68,6 +68,15 @@ fn example(site: &str) -> String {
     path.display().to_string()
 }
 
+/// Card and plan of an example, in a folder that can be written to.
+fn copy_of(site: &str) -> Folder {
+    let file = |name: &str| fs::read(example(site) + "/" + name).expect("the example is there");
+    Folder::with(&[
+        ("network.card", &file("network.card")),
+        ("network.plan", &file("network.plan")),
+    ])
+}
+
 fn lirgoth(args: &[&str]) -> Output {
     let mut program = Command::new(env!("CARGO_BIN_EXE_lirgoth"));
     program.args(args).output().expect("the program can be run")
@@ -216,12 +225,7 @@ fn the_example_sites_in_words() {
 
 #[test]
 fn a_drill_can_be_stored_and_explained() {
-    let site = example("dry-bulk");
-    let file = |name: &str| fs::read(format!("{site}/{name}")).expect("the example is there");
-    let folder = Folder::with(&[
-        ("network.card", &file("network.card")),
-        ("network.plan", &file("network.plan")),
-    ]);
+    let folder = copy_of("dry-bulk");
     let own = folder.0.display().to_string();
     for lies in ["split", "turned", "silent", "random:7"] {
         let drill = [
@@ -257,18 +261,17 @@ fn a_drill_can_be_stored_and_explained() {
 #[test]
 fn the_drill_of_the_mission_is_the_run_of_the_site() {
     // Office 2 says closed to 0 and 1 and open to 3 and 4, and turns round what it relays.
-    let printed = out(
-        &[
-            "drill",
-            &example("dry-bulk"),
-            "--faulty=2",
-            "--inputs=11010",
-            "--lies=split",
-        ],
-        ANSWERED,
-    );
+    let folder = copy_of("dry-bulk");
+    let own = folder.0.display().to_string();
+    let drill = [
+        "drill",
+        &own,
+        "--faulty=2",
+        "--inputs=11010",
+        "--lies=split",
+    ];
     assert_eq!(
-        printed,
+        out(&drill, ANSWERED),
         "office 2 says closed to 0 1 and open to 3 4, and turns round what it relays for others\n\
          office 0 entered closed and shows closed\n\
          office 1 entered closed and shows closed\n\
@@ -276,6 +279,13 @@ fn the_drill_of_the_mission_is_the_run_of_the_site() {
          office 3 entered closed and shows closed\n\
          office 4 entered open and shows closed\n"
     );
+    out(&[&drill[..], &["--write"]].concat(), ANSWERED);
+    let [stored, given] = [
+        folder.path("run.in"),
+        Path::new(&example("dry-bulk")).join("run.in"),
+    ]
+    .map(|path| fs::read(path).expect("it is there"));
+    assert_eq!(stored, given);
 }
 
 #[test]
@@ -380,13 +390,8 @@ fn a_plan_longer_than_rehearse_takes_is_explained() {
 
 #[test]
 fn a_refused_call_is_told_in_words() {
-    let site = example("small");
-    let file = |name: &str| fs::read(format!("{site}/{name}")).expect("the example is there");
-    let folder = Folder::with(&[
-        ("network.card", &file("network.card")),
-        ("network.plan", &file("network.plan")),
-        ("run.in", &[0, 1]),
-    ]);
+    let folder = copy_of("small");
+    fs::write(folder.path("run.in"), [0, 1]).expect("the folder can be written to");
     let explained = out(&["explain", &folder.0.display().to_string()], REFUSED);
     let last = explained.lines().last();
     assert_eq!(
