@@ -259,7 +259,7 @@ fn a_drill_can_be_stored_and_explained() {
 }
 
 #[test]
-fn the_drill_of_the_mission_is_the_run_of_the_site() {
+fn the_drill_with_split_lies_is_the_run_of_dry_bulk() {
     // Office 2 says closed to 0 and 1 and open to 3 and 4, and turns round what it relays.
     let folder = copy_of("dry-bulk");
     let own = folder.0.display().to_string();
