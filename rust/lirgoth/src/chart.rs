@@ -12,6 +12,7 @@
 //! mends them in one go.
 
 use crate::names::Names;
+use crate::words::counted;
 use agreement::{Network, ServerSet};
 use std::fmt::{self, Display, Formatter};
 
@@ -107,8 +108,8 @@ impl Reader {
             Err(_) => self.names(rest),
         };
         if !(FEWEST..=MOST).contains(&names.len()) {
-            let count = rest.parse().unwrap_or(names.len());
-            self.mistake(format!("{count} offices: there can be {FEWEST} to {MOST}"));
+            let count = counted(rest.parse().unwrap_or(names.len()), "office");
+            self.mistake(format!("{count}: there can be {FEWEST} to {MOST}"));
         }
         self.offices = Some(names);
     }
@@ -346,11 +347,11 @@ mod tests {
     #[test]
     fn offices_that_cannot_be_are_mistakes() {
         let with = |offices: &str| mistakes(&format!("offices {offices}\nmay fail 0"));
-        assert_eq!(with("1"), ["line 1: 1 offices: there can be 2 to 8"]);
+        assert_eq!(with("1"), ["line 1: 1 office: there can be 2 to 8"]);
         assert_eq!(with("9"), ["line 1: 9 offices: there can be 2 to 8"]);
         assert_eq!(
             with("99999999999"),
-            ["line 1: 99999999999 offices: there can be 2 to 8"]
+            ["line 1: 99,999,999,999 offices: there can be 2 to 8"]
         );
         assert_eq!(
             with("Oslo, Oslo"),

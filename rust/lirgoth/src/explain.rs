@@ -71,7 +71,7 @@ pub fn explain(site: &Site) -> Result<Answer, Unreadable> {
 }
 
 /// `5 offices, at most 1 may fail, 15 links`.
-pub fn size(network: &Network) -> String {
+fn size(network: &Network) -> String {
     let links = network.rows.iter().map(|row| row.len()).sum();
     format!(
         "{} offices, {}, {}",

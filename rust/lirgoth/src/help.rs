@@ -67,8 +67,8 @@ Runs SITE's plan without a run.in and says what each office shows.
                     0,Oslo; none where this is not given
   --lies LIES       how they lie:
                       split        each says closed to the first half of the sound offices
-                                   and open to the others, and turns round what it relays
-                                   (where this is not given)
+                                   and open to the others, and turns round what it relays;
+                                   this is what they do without --lies
                       turned       each turns round all that it sends
                       silent       nothing that they send arrives
                       random:SEED  anything arrives, the same for the same number SEED

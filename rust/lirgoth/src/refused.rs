@@ -7,7 +7,7 @@ mod plan;
 
 use crate::names::Names;
 use crate::site::Run;
-use crate::words::grouped;
+use crate::words::{counted, grouped};
 use agreement::{CallGround, Network, Refusal};
 
 /// `refused card 5 at byte 3: ..`, for a card that the library refuses with `refusal`.
@@ -54,9 +54,9 @@ fn why_call(ground: CallGround, network: &Network, names: &Names, run: &Run) -> 
     let n = usize::from(network.n);
     match ground {
         CallGround::Inputs if run.inputs.len() != n => {
-            let given = run.inputs.len();
+            let given = counted(run.inputs.len(), "input");
             Some(format!(
-                "{given} inputs are given, and each of the {n} offices enters one"
+                "{given} given, and each of the {n} offices enters one"
             ))
         }
         CallGround::Inputs => {
@@ -179,7 +179,7 @@ mod tests {
         };
         assert_eq!(
             told(CallGround::Inputs, 0, &[1, 0]),
-            "refused call 12: 2 inputs are given, and each of the 3 offices enters one"
+            "refused call 12: 2 inputs given, and each of the 3 offices enters one"
         );
         assert_eq!(
             told(CallGround::Inputs, 0, &[1, 0, 7]),

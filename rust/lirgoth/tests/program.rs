@@ -396,7 +396,7 @@ fn a_refused_call_is_told_in_words() {
     let last = explained.lines().last();
     assert_eq!(
         last,
-        Some("refused call 12: 1 inputs are given, and each of the 2 offices enters one")
+        Some("refused call 12: 1 input given, and each of the 2 offices enters one")
     );
 }
 

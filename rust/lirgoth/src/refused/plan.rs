@@ -71,8 +71,8 @@ impl Teller<'_> {
     /// What is due, as `the second route of 13 to office 4`.
     fn due(&self, place: &Place) -> String {
         match place {
-            Place::Opening { .. } => "its opening, command 10".to_string(),
-            Place::End => "the end, command 15".to_string(),
+            Place::Opening { .. } => "its opening (10)".to_string(),
+            Place::End => "the end (15)".to_string(),
             Place::Inside { due, .. } => match due {
                 Due::Route { .. } => format!("the {}", self.due_command(*due)),
                 Due::Report { .. } => self.due_command(*due),
