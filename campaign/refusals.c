@@ -243,8 +243,8 @@ static void cards(void)
     card_refused("a card without a head", LIST(CARD_END), AGREEMENT_BAD_HEAD, 0);
     card_refused("one server more than there can be",
                  LIST(HEAD, AGREEMENT_SERVERS + 1, 0, CARD_END), AGREEMENT_OUT_OF_RANGE, 0);
-    card_refused("a link twice", LIST(HEAD, 2, 0, LINK, 0, 1, LINK, 0, 1), AGREEMENT_LINK_TWICE,
-                 6);
+    card_refused("a link to itself after a link given twice",
+                 LIST(HEAD, 2, 0, LINK, 0, 1, LINK, 0, 1, LINK, 0, 0), AGREEMENT_OUT_OF_RANGE, 9);
 }
 
 static const uint8_t small_card[] = {HEAD, 2, 0, LINK, 0, 1, CARD_END};

@@ -35,7 +35,7 @@
  *    3      bytes follow the end command; the place is that of the first of them
  *    4      card: the first command is not 01, or 01 again
  *    5      card: n, f or a server out of range, or a link from a server to itself
- *    6      card: link given before
+ *    6      no longer given: a link given again is one link
  *    7      plan: the command, or the F and A of a block, is not the one due
  *    8      plan: S is empty or not within V-F
  *    9      plan: a route breaks a rule on its own
@@ -58,7 +58,7 @@ extern "C" {
 
 /* The version of this header. */
 #define AGREEMENT_VERSION_MAJOR 0
-#define AGREEMENT_VERSION_MINOR 1
+#define AGREEMENT_VERSION_MINOR 2
 #define AGREEMENT_VERSION_PATCH 0
 #define AGREEMENT_VERSION \
     (UINT64_C(1000000) * AGREEMENT_VERSION_MAJOR + UINT64_C(1000) * AGREEMENT_VERSION_MINOR + \
@@ -83,7 +83,6 @@ enum {
     AGREEMENT_TRAILING_BYTES = 3,
     AGREEMENT_BAD_HEAD = 4,       /* 01 is not first, or not the only one */
     AGREEMENT_OUT_OF_RANGE = 5,   /* a link from a server to itself too */
-    AGREEMENT_LINK_TWICE = 6,
     AGREEMENT_NOT_DUE = 7,        /* a command, or the F and A of a block */
     AGREEMENT_BAD_QUORUM = 8,     /* the S of a block */
     AGREEMENT_BAD_ROUTE = 9,

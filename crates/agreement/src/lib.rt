@@ -26,7 +26,7 @@ ghost use Rattle.agreement.specs.Version.{version};
 pub extern "C" fn agreement_version() -> u64
     ensures { λ r. ⌜ r ≡ version ⌝ }
 {
-    1_000
+    2_000
 }
 
 // 2, what is at fault, the refusal's number, its place.

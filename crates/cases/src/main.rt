@@ -3,8 +3,8 @@
 //
 // A case is a byte for its kind and then its parts; a part is its length in three bytes, high byte
 // first, and its bytes.
-//     c CARD                                   the first four words of the card reader, and the words
-//                                              of the split test
+//     c CARD                                   the words of the card reader
+//     s CARD                                   the words of the split test
 //     p CARD PLAN                              the words of the plan check
 //     r CARD PLAN INPUTS FAULTY TABLE BUFFER   the words of the run, and the lent bytes after it
 //     t CARD PLAN RUN                          what rehearse prints
@@ -83,13 +83,19 @@ fn end_line() {
 }
 
 fn card_case(card: &[u8]) {
-    let mut network = [9u64; 12];
-    agreement::agreement_read_card(card, &mut network);
-    print_words([network[0], network[1], network[2], network[3]]);
-    let mut split = [9u64; 5];
-    agreement::agreement_split_test(card, &mut split);
+    let mut answer = [9u64; 12];
+    agreement::agreement_read_card(card, &mut answer);
+    for i in 0..12usize {
+        print_word(answer[i]);
+    }
+    end_line();
+}
+
+fn split_case(card: &[u8]) {
+    let mut answer = [9u64; 5];
+    agreement::agreement_split_test(card, &mut answer);
     for i in 0..5usize {
-        print_word(split[i]);
+        print_word(answer[i]);
     }
     end_line();
 }
@@ -154,6 +160,10 @@ fn answer_case(kind: u8, s: &[u8]) -> &[u8]
     let first = after(s);
     if kind == 99 {
         card_case(card);
+        return first;
+    }
+    if kind == 115 {
+        split_case(card);
         return first;
     }
     let plan = part(first);

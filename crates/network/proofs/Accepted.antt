@@ -10,7 +10,7 @@ use lib.Dec.{eqb, ltb}
 use borrow.Author.Tests.{ltb-false, eqb-true, eqb-false}
 use Rattle.facts.proofs.Bools.{cases}
 use Rattle.refusal.specs.Refused.{Refused, card}
-use Rattle.network.specs.Links.{Links, linkedIn, withLink}
+use Rattle.network.specs.Links.{Links, withLink}
 use Rattle.network.specs.Card.{network, refused, more, done, turnedBack, headFits, linkFits, headAt, linkAt, endAt, stepAt, readCard}
 use Rattle.network.specs.Places.{At}
 use Rattle.network.proofs.Reading.{reading-answer}
@@ -72,9 +72,7 @@ module _ {s : List ℕ} {at n f : ℕ} {links : Links} (r : At s at n f links) (
         λ t. cases (eqb at 0)
         (λ z. absurd (not-back 4 at (simp (h, x, y, e, t, z))))
         λ z. cases (linkFits n (getD s (at + 1) 0) (getD s (at + 2) 0))
-        (λ q. cases (linkedIn links (getD s (at + 1) 0) (getD s (at + 2) 0))
-        (λ w. absurd (not-back 6 at (simp (h, x, y, e, t, z, q, w))))
-        λ w. inr (inl (record { later = eqb-false at 0 z; room = ltb-false (length s) (at + 3) t; fits = q; step = simp (h, x, y, e, t, z, q, w) })))
+        (λ q. inr (inl (record { later = eqb-false at 0 z; room = ltb-false (length s) (at + 3) t; fits = q; step = simp (h, x, y, e, t, z, q) })))
         λ q. absurd (not-back 5 at (simp (h, x, y, e, t, z, q)))
 
   pub outcome : Outcome

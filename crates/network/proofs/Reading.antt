@@ -13,7 +13,7 @@ use Rattle.facts.proofs.Bools.{bools, cases, clash}
 use Rattle.refusal.specs.Refused.{Refused, card, cardRefusal, refusalOf}
 use Rattle.refusal.specs.declared.CardGround.{CardGround}
 use Rattle.refusal.specs.declared.Refusal.{Refusal}
-use Rattle.network.specs.Links.{Links, noLinks, linkedIn, withLink}
+use Rattle.network.specs.Links.{Links, noLinks, withLink}
 use Rattle.network.specs.Card.{Network, network, refused, more, done, turnedBack, headFits, linkFits, headAt, linkAt, endAt, stepAt, commands, readCard, turned, headOf, linksAfter, withLinks}
 use Rattle.network.specs.Places.{At, wholeLink, Opened, Opening, Closing}
 use Rattle.network.specs.declared.card.Head as C
@@ -125,14 +125,9 @@ module _ (s : List ℕ) (at n f : ℕ) (links : Links) where
           link-range w = step-link ∙ simp (le-ltb (length s) (at + 3) (omega arith), ne-eqb at 0 z, w)
 
           module _ (w : linkFits n (getD s (at + 1) 0) (getD s (at + 2) 0) ≡ true) where
-            pub link-repeated : getD (getD links (getD s (at + 1) 0) []) (getD s (at + 2) 0) false ≡ true → stepAt s at n f links ≡ turnedBack 6 at
-            unfolding linkAt linkedIn
-            link-repeated g = step-link ∙ simp (le-ltb (length s) (at + 3) (omega arith), ne-eqb at 0 z, w, g)
-
-            pub link-goes : getD (getD links (getD s (at + 1) 0) []) (getD s (at + 2) 0) false ≡ false
-                → stepAt s at n f links ≡ more (at + 3) n f (set links (getD s (at + 1) 0) (set (getD links (getD s (at + 1) 0) []) (getD s (at + 2) 0) true))
-            unfolding linkAt linkedIn withLink
-            link-goes g = step-link ∙ simp (le-ltb (length s) (at + 3) (omega arith), ne-eqb at 0 z, w, g)
+            pub link-goes : stepAt s at n f links ≡ more (at + 3) n f (set links (getD s (at + 1) 0) (set (getD links (getD s (at + 1) 0) []) (getD s (at + 2) 0) true))
+            unfolding linkAt withLink
+            link-goes = step-link ∙ simp (le-ltb (length s) (at + 3) (omega arith), ne-eqb at 0 z, w)
 
 -- the test for a whole link, both ways
 pub link-whole : (s : List ℕ) (at : ℕ) (b : Bool) → b ≡ wholeLink s at → b ≡ true → (3 ≤ length s - at) × (getD s at 0 ≡ 2)
@@ -211,19 +206,13 @@ module _ {s : List ℕ} {at n f : ℕ} {marks : Links} where
     linking-range q e = reading-answer (k .turn .reading) _ (link-range s at n f marks (omega arith) (k .two) (omega arith) later (sym q ∙ e))
 
   module _ (k : Fitting s at n f marks) where
-    pub fitting-repeated : getD (getD marks (getD s (at + 1) 0) []) (getD s (at + 2) 0) false ≡ true → refused (card 6 at) ≡ readCard s
-    fitting-repeated g =
-        let l = k .linking in
-        reading-answer (l .turn .reading) _ (link-repeated s at n f marks (omega arith) (l .two) (omega arith) (later l) (k .fits) g)
-
-    pub fitting-goes : getD (getD marks (getD s (at + 1) 0) []) (getD s (at + 2) 0) false ≡ false
-        → Turn s (at + 3) n f (set marks (getD s (at + 1) 0) (set (getD marks (getD s (at + 1) 0) []) (getD s (at + 2) 0) true))
-    fitting-goes g =
+    pub fitting-goes : Turn s (at + 3) n f (set marks (getD s (at + 1) 0) (set (getD marks (getD s (at + 1) 0) []) (getD s (at + 2) 0) true))
+    fitting-goes =
         let l = k .linking in
         record {
           most = l .turn .most;
           later = omega arith;
-          reading = reading-goes (l .turn .reading) _ _ _ _ (link-goes s at n f marks (omega arith) (l .two) (omega arith) (later l) (k .fits) g) (omega arith) (l .room);
+          reading = reading-goes (l .turn .reading) _ _ _ _ (link-goes s at n f marks (omega arith) (l .two) (omega arith) (later l) (k .fits)) (omega arith) (l .room);
         }
 
   -- after the last whole link

@@ -7,7 +7,7 @@ use Prim.Native.Nat.{ℕ, zero, suc, _+_}
 use lib.ListN.{length, getD}
 use lib.Dec.{eqb, ltb}
 use Rattle.refusal.specs.Refused.{Refused, card}
-use Rattle.network.specs.Links.{Links, noLinks, linkedIn, withLink}
+use Rattle.network.specs.Links.{Links, noLinks, withLink}
 
 pub data Network : Type 0 where
   network : (n f : ℕ) → Links → Network
@@ -37,14 +37,13 @@ headAt s at links =
     (cond (headFits (getD s (at + 1) 0) (getD s (at + 2) 0)) (more (at + 3) (getD s (at + 1) 0) (getD s (at + 2) 0) links)
     (turnedBack 5 at)))
 
--- 02 u v
+-- 02 u v; a link given again is marked as it was
 unfoldable pub linkAt : List ℕ → ℕ → ℕ → ℕ → Links → Step
 linkAt s at n f links =
     cond (ltb (length s) (at + 3)) (turnedBack 2 at)
     (cond (eqb at 0) (turnedBack 4 at)
-    (cond (not (linkFits n (getD s (at + 1) 0) (getD s (at + 2) 0))) (turnedBack 5 at)
-    (cond (linkedIn links (getD s (at + 1) 0) (getD s (at + 2) 0)) (turnedBack 6 at)
-    (more (at + 3) n f (withLink links (getD s (at + 1) 0) (getD s (at + 2) 0))))))
+    (cond (linkFits n (getD s (at + 1) 0) (getD s (at + 2) 0)) (more (at + 3) n f (withLink links (getD s (at + 1) 0) (getD s (at + 2) 0)))
+    (turnedBack 5 at)))
 
 -- 03
 unfoldable pub endAt : List ℕ → ℕ → ℕ → ℕ → Links → Step

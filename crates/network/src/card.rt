@@ -139,7 +139,7 @@ pub fn read_card(card: &[u8], links: &mut [[bool; 8]; 8]) -> Reading
     }
 }
 
-// The links after the head, and the end.
+// The links after the head, and the end. A link given again finds its mark set, and is one link.
 fn read_links(card: &[u8], n: u8, f: u8, links: &mut [[bool; 8]; 8]) -> Reading
     requires { ⌜ (n ≤ 8) × (At (now card) 3 n f noLinks) ⌝ }
     ensures { λ r. ⌜ Answered (now (card .entry)) (now (links .entry)) r (now (links .exit)) ⌝ }
@@ -152,9 +152,6 @@ fn read_links(card: &[u8], n: u8, f: u8, links: &mut [[bool; 8]; 8]) -> Reading
         if link_fits(n, u, v) {
             let row = u as usize;
             let mark = v as usize;
-            if marks[row][mark] {
-                return refused(CardGround::Repeated(at));
-            }
             marks[row][mark] = true;
             at = at + 3;
         } else {

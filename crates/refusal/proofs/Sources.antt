@@ -12,7 +12,6 @@ of-card (CardGround.Cut at) = refl
 of-card (CardGround.Trailing at) = refl
 of-card (CardGround.Head at) = refl
 of-card (CardGround.Range at) = refl
-of-card (CardGround.Repeated at) = refl
 
 pub of-plan : (g : PlanGround) → 1 ≡ whoseOf (planRefusal g)
 of-plan PlanGround.TooLong = refl

@@ -18,7 +18,6 @@ cardRefusal (CardGround.Cut at) = card 2 at
 cardRefusal (CardGround.Trailing at) = card 3 at
 cardRefusal (CardGround.Head at) = card 4 at
 cardRefusal (CardGround.Range at) = card 5 at
-cardRefusal (CardGround.Repeated at) = card 6 at
 
 abbrev pub planRefusal : PlanGround → Refused
 planRefusal PlanGround.TooLong = plan 1 0

@@ -14,8 +14,6 @@ pub enum CardGround {
     Head(usize),
     // n, f or a server is out of range, or a link leads from a server to itself.
     Range(usize),
-    // The link was given before.
-    Repeated(usize),
 }
 
 pub enum PlanGround {
@@ -72,7 +70,6 @@ fn card_number(g: CardGround) -> u8
         CardGround::Trailing(_) => 3,
         CardGround::Head(_) => 4,
         CardGround::Range(_) => 5,
-        CardGround::Repeated(_) => 6,
     }
 }
 
@@ -101,7 +98,7 @@ fn call_number(g: CallGround) -> u8
     }
 }
 
-// The refusal's number, 1 to 14.
+// The refusal's number, 1 to 14 without 6.
 pub fn number(r: Refusal) -> u8
     ensures { λ m. ⌜ m ≡ numberOf (refusalOf r) ⌝ }
 {
@@ -121,7 +118,6 @@ fn card_place(g: CardGround) -> usize
         CardGround::Trailing(at) => at,
         CardGround::Head(at) => at,
         CardGround::Range(at) => at,
-        CardGround::Repeated(at) => at,
     }
 }
 

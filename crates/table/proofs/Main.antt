@@ -57,7 +57,7 @@ passing-each (first ∷ rs) h r m =
 -- one `refl` a row, in the table's order: of a row that fails the checker prints the name
 computed : Passing table
 unfolding test sameList has single union meet minus within full count size firstIn lowest noLinks linkedIn withLink headFits linkFits headAt linkAt endAt stepAt commands readCard someBelow incoming held rest isSplit isBad badAt firstFrom badWithSides badWithFaults firstBad splitTest listFrom members isPart due fan toOne pairs routesDue path isFill filled serversOf goesOn isPath isRoute width isCut isDue routeAt checkGroup checkGroups allLinked isReport checkReports checkBlock checkBlocks checkEnd checkOn checkPlan routesAt reportsAt inwardDue amongDue outwardDue decodeBlock lengthOf decodeBlocks decodePlan reportCarriages carriagesOf hit message brought heard all common valuesFrom values step1 gather compare step5 step6 runBlock runBlocks areBits checkCall runOn runPlan decided written lentAfter
-computed = (refl, (refl, (refl, (refl, (refl, (refl, (refl, (refl, (refl, (refl, (refl, (refl, (refl, (refl, (refl, (refl, (refl, (refl, (refl, (refl, (refl, (refl, (refl, (refl, (refl, (refl, (refl, (refl, (refl, (refl, (refl, (refl, (refl, (refl, (refl, (refl, (refl, (refl, (refl, (refl, tt))))))))))))))))))))))))))))))))))))))))
+computed = (refl, (refl, (refl, (refl, (refl, (refl, (refl, (refl, (refl, (refl, (refl, (refl, (refl, (refl, (refl, (refl, (refl, (refl, (refl, (refl, (refl, (refl, (refl, (refl, (refl, (refl, (refl, (refl, (refl, (refl, (refl, (refl, (refl, (refl, (refl, (refl, (refl, (refl, (refl, (refl, (refl, (refl, (refl, (refl, (refl, tt)))))))))))))))))))))))))))))))))))))))))))))
 
 pub table-holds : (r : Row) → List·Memᴰ r table → Holds r
 table-holds r m = passing-each table computed r m

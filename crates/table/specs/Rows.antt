@@ -87,6 +87,21 @@ P4-card =
     0x01 ∷ 0x04 ∷ 0x01
     ∷ (linksFrom 0 (1 ∷ 2 ∷ 3 ∷ []) ++ linksFrom 1 (0 ∷ 2 ∷ 3 ∷ []) ++ linksFrom 2 (0 ∷ 1 ∷ 3 ∷ []) ++ linksFrom 3 (0 ∷ 1 ∷ 2 ∷ []) ++ 0x03 ∷ [])
 
+-- two cables for each link: of P1, of P3 turn by turn, of P4 once all single ones are given
+abbrev pub P1-twins : List ℕ
+P1-twins = 0x01 ∷ 0x02 ∷ 0x00 ∷ (linksFrom 0 (1 ∷ 1 ∷ []) ++ 0x03 ∷ [])
+
+abbrev pub P3-twins : List ℕ
+P3-twins =
+    0x01 ∷ 0x03 ∷ 0x01
+    ∷ (linksFrom 0 (1 ∷ 2 ∷ 1 ∷ 2 ∷ []) ++ linksFrom 1 (0 ∷ 2 ∷ 0 ∷ 2 ∷ []) ++ linksFrom 2 (0 ∷ 1 ∷ 0 ∷ 1 ∷ []) ++ 0x03 ∷ [])
+
+abbrev pub P4-twins : List ℕ
+P4-twins =
+    0x01 ∷ 0x04 ∷ 0x01
+    ∷ (linksFrom 0 (1 ∷ 2 ∷ 3 ∷ []) ++ linksFrom 1 (0 ∷ 2 ∷ 3 ∷ []) ++ linksFrom 2 (0 ∷ 1 ∷ 3 ∷ []) ++ linksFrom 3 (0 ∷ 1 ∷ 2 ∷ [])
+    ++ linksFrom 0 (1 ∷ 2 ∷ 3 ∷ []) ++ linksFrom 1 (0 ∷ 2 ∷ 3 ∷ []) ++ linksFrom 2 (0 ∷ 1 ∷ 3 ∷ []) ++ linksFrom 3 (0 ∷ 1 ∷ 2 ∷ []) ++ 0x03 ∷ [])
+
 abbrev pub opening : ℕ → ℕ → ℕ → List ℕ
 opening F A S = 0x10 ∷ F ∷ A ∷ S ∷ []
 
@@ -153,6 +168,13 @@ table =
     ∷ row "P2 has the bad split F 0, L 1, C 0, R 2" (splits P2-card) (2 ∷ 0 ∷ 1 ∷ 0 ∷ 2 ∷ [])
     ∷ row "P3 has the bad split F 1, L 2, C 0, R 4" (splits P3-card) (2 ∷ 1 ∷ 2 ∷ 0 ∷ 4 ∷ [])
     ∷ row "P4 has no bad split" (splits P4-card) (1 ∷ [])
+    ∷ row "a link given twice is one link" (reads P1-twins) (1 ∷ 2 ∷ 0 ∷ [])
+    ∷ row "P3 with every link given twice has the bad split F 1, L 2, C 0, R 4" (splits P3-twins) (2 ∷ 1 ∷ 2 ∷ 0 ∷ 4 ∷ [])
+    ∷ row "P4 with every link given twice has no bad split" (splits P4-twins) (1 ∷ [])
+    ∷ row "a link from a server to itself is refused 5 where that server has a link"
+    (reads (0x01 ∷ 0x02 ∷ 0x00 ∷ 0x02 ∷ 0x00 ∷ 0x01 ∷ 0x02 ∷ 0x00 ∷ 0x00 ∷ 0x03 ∷ [])) (0 ∷ 0 ∷ 5 ∷ 6 ∷ [])
+    ∷ row "two routes of 13 over twin cables begin at one server: 10 at the later one"
+    (checks P4-twins (opening 0x00 0x01 0x01 ++ direct 0x13 ((0, 1) ∷ (0, 1) ∷ []))) (0 ∷ 1 ∷ 10 ∷ 13 ∷ [])
     ∷ row "n 8 is read" (reads (0x01 ∷ 0x08 ∷ 0x00 ∷ 0x03 ∷ [])) (1 ∷ 8 ∷ 0 ∷ [])
     ∷ row "n 9 is refused 5" (reads (0x01 ∷ 0x09 ∷ 0x00 ∷ 0x03 ∷ [])) (0 ∷ 0 ∷ 5 ∷ 0 ∷ [])
     ∷ row "f 2 is read" (reads (0x01 ∷ 0x08 ∷ 0x02 ∷ 0x03 ∷ [])) (1 ∷ 8 ∷ 2 ∷ [])

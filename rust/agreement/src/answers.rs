@@ -104,8 +104,8 @@ fn set(word: u64) -> Option<ServerSet> {
 mod tests {
     use super::*;
 
-    const REPEATED: Refusal = Refusal::Card {
-        ground: CardGround::Repeated,
+    const OUT_OF_RANGE: Refusal = Refusal::Card {
+        ground: CardGround::Range,
         place: 87,
     };
     const NOT_DUE: Refusal = Refusal::Plan {
@@ -126,9 +126,9 @@ mod tests {
         };
         assert_eq!(network(&accepted), Some(expected));
         assert_eq!(card_refusal(&accepted), None);
-        let refused = [2, 0, 6, 87, 0, 0, 0, 0, 0, 0, 0, 0];
+        let refused = [2, 0, 5, 87, 0, 0, 0, 0, 0, 0, 0, 0];
         assert_eq!(network(&refused), None);
-        assert_eq!(card_refusal(&refused), Some(REPEATED));
+        assert_eq!(card_refusal(&refused), Some(OUT_OF_RANGE));
     }
 
     #[test]
@@ -137,7 +137,7 @@ mod tests {
         let bad = Split { f, l, c, r };
         assert_eq!(split_or_refusal([0; 5]), Some(Ok(None)));
         assert_eq!(split_or_refusal([1, 1, 2, 0, 4]), Some(Ok(Some(bad))));
-        assert_eq!(split_or_refusal([2, 0, 6, 87, 0]), Some(Err(REPEATED)));
+        assert_eq!(split_or_refusal([2, 0, 5, 87, 0]), Some(Err(OUT_OF_RANGE)));
     }
 
     #[test]
@@ -147,10 +147,10 @@ mod tests {
             carriages: 230,
         };
         assert_eq!(totals_or_refusal([0, 19, 230, 0]), Some(Ok(totals)));
-        assert_eq!(totals_or_refusal([2, 0, 6, 87]), Some(Err(REPEATED)));
+        assert_eq!(totals_or_refusal([2, 0, 5, 87]), Some(Err(OUT_OF_RANGE)));
         assert_eq!(totals_or_refusal([2, 1, 7, 4]), Some(Err(NOT_DUE)));
         assert_eq!(ran_or_refusal([0, 19, 230, 0]), Some(Ok(totals)));
-        assert_eq!(ran_or_refusal([2, 0, 6, 87]), Some(Err(REPEATED)));
+        assert_eq!(ran_or_refusal([2, 0, 5, 87]), Some(Err(OUT_OF_RANGE)));
         assert_eq!(ran_or_refusal([2, 1, 7, 4]), Some(Err(NOT_DUE)));
         assert_eq!(ran_or_refusal([2, 2, 13, 0]), Some(Err(FAULT_SET)));
     }
@@ -167,11 +167,12 @@ mod tests {
             [0, 2, 0, 0, 2, 1, 0, 0, 0, 0, 0, UNWRITTEN],
             [1, 2, 0, 0, 0, 0, 0, 0, 0, 0, 0, 0],
             [2, 1, 2, 87, 0, 0, 0, 0, 0, 0, 0, 0],
-            [2, 3, 6, 87, 0, 0, 0, 0, 0, 0, 0, 0],
+            [2, 3, 5, 87, 0, 0, 0, 0, 0, 0, 0, 0],
+            [2, 0, 6, 87, 0, 0, 0, 0, 0, 0, 0, 0],
             [2, 0, 7, 87, 0, 0, 0, 0, 0, 0, 0, 0],
             [2, 0, 256, 87, 0, 0, 0, 0, 0, 0, 0, 0],
-            [2, 0, 6, 87, 2, 0, 0, 0, 0, 0, 0, 0],
-            [2, 0, 6, 87, 0, 0, 0, 0, 0, 0, 0, UNWRITTEN],
+            [2, 0, 5, 87, 2, 0, 0, 0, 0, 0, 0, 0],
+            [2, 0, 5, 87, 0, 0, 0, 0, 0, 0, 0, UNWRITTEN],
         ] {
             assert_eq!(network(&answer), None, "{answer:?}");
             assert_eq!(card_refusal(&answer), None, "{answer:?}");
@@ -185,7 +186,7 @@ mod tests {
             [0, 0, 0, 0, UNWRITTEN],
             [0, 0, 0, 0, 1],
             [1, 0, 1, 0, 256],
-            [2, 0, 6, 87, 1],
+            [2, 0, 5, 87, 1],
             [2, 1, 2, 87, 0],
             [3, 0, 0, 0, 0],
         ] {

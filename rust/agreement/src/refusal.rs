@@ -116,7 +116,6 @@ grounds! {
         Trailing = 3, "bytes follow the end command";
         Head = 4, "the first command is not 01, or 01 stands again";
         Range = 5, "n, f or a server is out of range, or a link leads from a server to itself";
-        Repeated = 6, "the link was given before";
     }
 }
 
@@ -153,7 +152,7 @@ mod tests {
             let card = CardGround::of_number(number).map(CardGround::number);
             assert_eq!(
                 card.map(u64::from),
-                (1..=6).contains(&number).then_some(number)
+                (1..=5).contains(&number).then_some(number)
             );
             let plan = PlanGround::of_number(number).map(PlanGround::number);
             let of_plan = (1..=3).contains(&number) || (7..=11).contains(&number);

@@ -50,10 +50,15 @@ pub fn cases() -> Vec<Case> {
             split: bad(0, 1, 252, 2),
         },
         Case {
-            name: "refused halfway, link 29 of 56 given before",
+            name: "twin cables, 340 commands for 56 links",
+            card: longest_card(),
+            split: Ok(None),
+        },
+        Case {
+            name: "refused halfway, link 29 of 56 to itself",
             card: refused_halfway(),
             split: Err(Refusal::Card {
-                number: 6,
+                number: 5,
                 place: 87,
             }),
         },
@@ -94,10 +99,16 @@ fn late_bad_split() -> Vec<u8> {
     card_of(N, F, &kept)
 }
 
-/// The complete network's card, but with its first link again where the first of the
-/// second half should stand.
+/// The complete network with as many link commands as a card has room for.
+fn longest_card() -> Vec<u8> {
+    let links: Vec<(u8, u8)> = all_links(N).into_iter().cycle().take(340).collect();
+    card_of(N, F, &links)
+}
+
+/// The complete network's card, but with a link from server 4 to itself where the first
+/// of the second half should stand.
 fn refused_halfway() -> Vec<u8> {
     let mut links = all_links(N);
-    links[28] = links[0];
+    links[28] = (4, 4);
     card_of(N, F, &links)
 }

@@ -8,6 +8,6 @@ mod tally;
 pub use given::given_cards;
 pub use loops::{
     any_lengths, every_small_network, extensions, networks_of_every_density, random_cards,
-    truncations, CARDS_OF_A_LENGTH,
+    truncations, twin_cables, CARDS_OF_A_LENGTH,
 };
 pub use tally::Tally;

@@ -7,6 +7,7 @@ mod tally;
 pub use given::given_plans;
 pub use loops::{
     any_cards, around_the_limit, broken_off_plans, damaged_plans, every_byte, every_neighbours,
-    every_opening, every_short_route, other_cards, plan_like_bytes, truncations, PLAN_LIMIT,
+    every_opening, every_short_route, other_cards, plan_like_bytes, truncations, twin_cables,
+    PLAN_LIMIT,
 };
 pub use tally::{Damages, Tally};

@@ -4,7 +4,7 @@
 //! is built, in a folder of its own for each triple of files.
 
 use crate::planned;
-use generate::{card, damaged_plan, faulty, inputs, plan_like_bytes, table, Rng};
+use generate::{card, damaged_plan, faulty, inputs, plan_like_bytes, table, with_twins, Rng};
 use reference::rehearse;
 use std::fs;
 use std::path::{Path, PathBuf};
@@ -92,8 +92,8 @@ pub fn random_files(seed: u64, count: usize) -> Printed {
     tally
 }
 
-/// A triple of files: mostly a network with its plan and a run, at times damaged, absent
-/// or too long.
+/// A triple of files: mostly a network with its plan and a run, at times with twin
+/// cables, damaged, absent or too long.
 fn draw(rng: &mut Rng) -> Files {
     let sizes = [(2, 0), (3, 0), (4, 0), (5, 0), (4, 1), (5, 1)];
     let (n, f) = sizes[rng.below(sizes.len())];
@@ -112,6 +112,7 @@ fn draw(rng: &mut Rng) -> Files {
             let which = rng.below(3);
             files[which].resize(FILE_LIMIT + rng.below(2), 0);
         }
+        6 => files[0] = with_twins(rng, &files[0]),
         _ => {}
     }
     files.map(|file| if rng.below(40) == 0 { None } else { Some(file) })

@@ -15,6 +15,7 @@
 //!   ([`every_input`]), tables of every length and byte ([`every_table`]), bytes past
 //!   the first 65,536 of a table ([`late_tables`]), wrong inputs, faulty sets and
 //!   buffers of many lengths in all combinations ([`wrong_calls`]).
+//! - Cards that give links again, beside those that give each once ([`twin_cables`]).
 //! - Refused cards and plans with calls that are right or wrong ([`refused_plans`]).
 //! - A search for a table that splits the sound servers ([`search`]).
 
@@ -27,6 +28,6 @@ pub use adversary::{search, Effort, Search};
 pub use given::given_runs;
 pub use loops::{
     every_faulty_set, every_input, every_table, late_tables, random_calls, refused_plans,
-    wrong_calls,
+    twin_cables, wrong_calls,
 };
 pub use tally::Tally;

@@ -4,6 +4,6 @@
 fn library_and_reference_answer_as_stated() {
     let tally = compare::cards::given_cards();
     println!("given: {tally}");
-    assert_eq!(tally.cards(), 795);
-    assert_eq!(tally.accepted(), 330);
+    assert_eq!(tally.cards(), 662 + 420);
+    assert_eq!(tally.accepted(), 330 + 257);
 }

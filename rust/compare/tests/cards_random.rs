@@ -39,6 +39,14 @@ fn networks_of_every_density() {
 }
 
 #[test]
+fn networks_with_twin_cables() {
+    let tally = cards::twin_cables(0..400);
+    println!("twin cables: {tally}");
+    assert_eq!(tally.accepted(), tally.cards());
+    assert!(tally.with_bad_split >= 1_000 && tally.without_bad_split >= 1_000);
+}
+
+#[test]
 fn truncated_cards() {
     let tally = cards::truncations();
     println!("truncated: {tally}");

@@ -4,6 +4,6 @@
 fn library_and_reference_answer_as_stated() {
     let tally = compare::plans::given_plans();
     println!("given: {tally}");
-    assert_eq!(tally.plans(), 250);
+    assert_eq!(tally.plans(), 216);
     assert_eq!(tally.accepted, 68);
 }

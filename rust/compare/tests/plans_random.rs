@@ -78,6 +78,16 @@ fn plans_with_the_card_of_another_network() {
 }
 
 #[test]
+fn plans_with_twin_cables() {
+    let tally = plans::twin_cables(0..1_200, 20);
+    println!("twin cables: {tally}");
+    assert_eq!(tally.plans(), 2 * 1_200 * 21);
+    assert!(tally.accepted >= 2_400);
+    assert_eq!(tally.card_refused, [0; 6]);
+    assert_refusals(&tally, &OF_A_PLAN, 500);
+}
+
+#[test]
 fn any_cards_with_any_plans() {
     let tally = plans::any_cards(0..5_000);
     println!("any cards: {tally}");

@@ -6,7 +6,7 @@
 use compare::runs::{self, Tally};
 
 /// The refusals that a card and a plan can meet.
-const OF_A_CARD: [usize; 6] = [1, 2, 3, 4, 5, 6];
+const OF_A_CARD: [usize; 5] = [1, 2, 3, 4, 5];
 const OF_A_PLAN: [usize; 8] = [1, 2, 3, 7, 8, 9, 10, 11];
 
 fn assert_call_refusals(tally: &Tally, times: usize) {
@@ -67,6 +67,25 @@ fn random_calls_for_two_faults() {
     let tally = random_calls(&[(7, 2, 12, 200), (8, 2, 10, 120)]);
     println!("random: {tally}");
     assert!(tally.answered[2] >= 1_000);
+}
+
+#[test]
+fn calls_with_twin_cables() {
+    let mut tally = Tally::default();
+    for (n, f, seeds, times) in [
+        (2, 0, 50, 20),
+        (3, 0, 50, 20),
+        (5, 0, 50, 20),
+        (4, 1, 100, 20),
+        (5, 1, 100, 20),
+        (7, 2, 4, 20),
+        (8, 2, 2, 20),
+    ] {
+        tally.add(&runs::twin_cables(n, f, 0..seeds, times));
+    }
+    println!("twin cables: {tally}");
+    assert_eq!(tally.all_answered(), tally.runs());
+    assert!(tally.contested.iter().all(|&count| count >= 1_000));
 }
 
 #[test]

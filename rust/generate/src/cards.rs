@@ -1,6 +1,7 @@
 //! Network cards, sound and damaged.
 
 use crate::rng::Rng;
+use crate::twins::{self_link_among_twins, twins, twins_damaged};
 use reference::split_test;
 
 /// Command bytes of the card.
@@ -11,7 +12,7 @@ const END: u8 = 0x03;
 const PLAN_COMMANDS: [u8; 6] = [0x10, 0x11, 0x12, 0x13, 0x14, 0x15];
 
 /// The opening command takes this many bytes, and so does each link.
-const COMMAND_SIZE: usize = 3;
+pub(crate) const COMMAND_SIZE: usize = 3;
 /// The most bytes that a card may have.
 const CARD_LIMIT: usize = 1_024;
 
@@ -20,13 +21,16 @@ type Maker = fn(&mut Rng) -> Vec<u8>;
 
 /// All kinds of cards; [`card`] draws among them evenly. Sound cards stand here
 /// more than once so that a fair share of the draws is accepted.
-const MAKERS: [Maker; 20] = [
+const MAKERS: [Maker; 23] = [
     sound,
     sound,
     sound,
     empty,
-    repeated_link,
-    byte_damaged,
+    twins,
+    twins,
+    twins_damaged,
+    self_link_among_twins,
+    any_byte_damaged,
     byte_inserted,
     byte_removed,
     truncated,
@@ -130,7 +134,7 @@ fn sound(rng: &mut Rng) -> Vec<u8> {
 }
 
 /// A sound card that has at least one link.
-fn sound_with_links(rng: &mut Rng) -> Vec<u8> {
+pub(crate) fn sound_with_links(rng: &mut Rng) -> Vec<u8> {
     loop {
         let card = sound(rng);
         if link_count(&card) > 0 {
@@ -139,8 +143,8 @@ fn sound_with_links(rng: &mut Rng) -> Vec<u8> {
     }
 }
 
-/// How many links a sound card has.
-fn link_count(card: &[u8]) -> usize {
+/// How many link commands a sound card has.
+pub(crate) fn link_count(card: &[u8]) -> usize {
     (card.len() - 1) / COMMAND_SIZE - 1
 }
 
@@ -176,17 +180,12 @@ fn empty(_rng: &mut Rng) -> Vec<u8> {
     Vec::new()
 }
 
-fn repeated_link(rng: &mut Rng) -> Vec<u8> {
-    let mut card = sound_with_links(rng);
-    let from = place_of_link(rng, &card);
-    let link = card[from..from + COMMAND_SIZE].to_vec();
-    let to = place_after_opening(rng, &card);
-    insert(&mut card, to, &link);
-    card
+fn any_byte_damaged(rng: &mut Rng) -> Vec<u8> {
+    let card = sound(rng);
+    byte_damaged(rng, card)
 }
 
-fn byte_damaged(rng: &mut Rng) -> Vec<u8> {
-    let mut card = sound(rng);
+pub(crate) fn byte_damaged(rng: &mut Rng, mut card: Vec<u8>) -> Vec<u8> {
     let place = rng.below(card.len());
     card[place] = likely_byte(rng);
     card
@@ -339,8 +338,8 @@ fn opened_small_bytes(rng: &mut Rng) -> Vec<u8> {
     card
 }
 
-/// A card of a length near the limit, sound for as long as it can be: distinct
-/// links do not reach that far, so links repeat or bytes follow the end.
+/// A card of a length near the limit, sound for as long as it can be. Different links
+/// do not reach that far, so links come again or bytes follow the end.
 fn near_the_limit(rng: &mut Rng) -> Vec<u8> {
     let length = match rng.below(5) {
         0 => CARD_LIMIT,
@@ -407,7 +406,7 @@ mod tests {
     fn cards_meet_acceptance_and_every_refusal() {
         let mut rng = Rng::new(2);
         let mut accepted = 0;
-        let mut refused = [0usize; 7];
+        let mut refused = [0usize; 6];
         for _ in 0..DRAWS {
             match read_card(&card(&mut rng)) {
                 Ok(_) => accepted += 1,
@@ -415,7 +414,7 @@ mod tests {
                 Err(other) => panic!("not a refusal of a card: {other:?}"),
             }
         }
-        println!("accepted {accepted}, refused 1 to 6 {:?}", &refused[1..]);
+        println!("accepted {accepted}, refused 1 to 5 {:?}", &refused[1..]);
         assert!(accepted > DRAWS / 10);
         assert!(
             refused[1..].iter().all(|&count| count > DRAWS / 100),
@@ -487,7 +486,7 @@ mod tests {
         for _ in 0..2_000 {
             assert_eq!(number(&sound(&mut rng)), 0);
             assert_eq!(number(&empty(&mut rng)), 2);
-            assert_eq!(number(&repeated_link(&mut rng)), 6);
+            assert_eq!(number(&twins(&mut rng)), 0);
             assert_eq!(number(&truncated(&mut rng)), 2);
             assert_eq!(number(&extended(&mut rng)), 3);
             assert_eq!(number(&end_missing(&mut rng)), 2);
@@ -503,21 +502,22 @@ mod tests {
     fn lengths_around_the_limit_are_met() {
         let mut rng = Rng::new(5);
         let mut lengths = [0usize; 2_001];
-        let mut numbers = [0usize; 7];
+        let mut numbers = [0usize; 6];
+        let mut longest = 0;
         for _ in 0..2_000 {
             let card = near_the_limit(&mut rng);
             lengths[card.len()] += 1;
             match read_card(&card) {
                 Err(Refusal::Card { number, .. }) => numbers[usize::from(number)] += 1,
-                other => panic!("such a card cannot be accepted: {other:?}"),
+                Err(other) => panic!("not a refusal of a card: {other:?}"),
+                Ok(_) => longest = longest.max(card.len()),
             }
         }
+        assert_eq!(longest, CARD_LIMIT, "the longest card that is accepted");
         assert!((1_020..=1_030)
             .chain([2_000])
             .all(|length| lengths[length] > 0));
-        assert!([1, 2, 3, 6]
-            .iter()
-            .all(|&number: &usize| numbers[number] > 0));
+        assert!([1, 2, 3].iter().all(|&number: &usize| numbers[number] > 0));
     }
 
     #[test]

@@ -14,6 +14,7 @@ mod draft;
 mod plans;
 mod rng;
 mod routes;
+mod twins;
 
 pub use calls::{aimed_table, faulty, inputs, lent, table, AIMS};
 pub use cards::{
@@ -24,3 +25,4 @@ pub use damage::{damaged_plan, Damage, DAMAGES};
 pub use draft::places;
 pub use plans::{broken_off_plan, plan, plan_like_bytes};
 pub use rng::Rng;
+pub use twins::with_twins;

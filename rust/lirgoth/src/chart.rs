@@ -68,8 +68,8 @@ struct Reader {
     at: usize,
     offices: Option<Vec<Option<String>>>,
     failing: Option<u8>,
-    /// The links given so far, each with its line.
-    links: Vec<((u8, u8), usize)>,
+    /// The links given so far, those of twin cables more than once.
+    links: Vec<(u8, u8)>,
     mistakes: Vec<Mistake>,
 }
 
@@ -181,15 +181,7 @@ impl Reader {
         if source == receiver {
             return self.mistake(format!("a link from office {source} to itself"));
         }
-        let link = (source, receiver);
-        match self.links.iter().find(|(given, _)| *given == link) {
-            Some(&(_, line)) => {
-                self.mistake(format!(
-                    "the link {source} -> {receiver} was given before, in line {line}"
-                ));
-            }
-            None => self.links.push((link, self.at)),
-        }
+        self.links.push((source, receiver));
     }
 
     /// The office of that name or number.
@@ -219,7 +211,7 @@ impl Reader {
         match (self.offices, self.failing) {
             (Some(offices), Some(f)) if self.mistakes.is_empty() => {
                 let mut rows = [ServerSet::EMPTY; 8];
-                for ((source, receiver), _) in self.links {
+                for (source, receiver) in self.links {
                     let row = &mut rows[usize::from(source)];
                     *row = *row | [receiver].into_iter().collect();
                 }
@@ -334,7 +326,6 @@ mod tests {
             "line 2: \"3\": 0 to 2 offices may fail",
             "line 3: there is no office \"3\": offices are 0 to 2, or their names",
             "line 4: a link from office 1 to itself",
-            "line 6: the link 1 -> 0 was given before, in line 5",
             "line 7: there is no office \"Oslo\": offices are 0 to 2, or their names",
             "line 8: \"0 - 1\" is no line of a chart: it has lines \"offices 5\", \"may fail 1\", \
              \"0 -> 1\", \"1 <-> 2\" and comments after #",
@@ -342,6 +333,26 @@ mod tests {
             "line 10: the offices are given already",
         ];
         assert_eq!(found, expected);
+    }
+
+    #[test]
+    fn twin_cables_are_one_link_and_one_command_of_the_card() {
+        let with = |links: &str| {
+            let text = format!("offices 3\nmay fail 0\n{links}");
+            read(text.as_bytes()).expect(links)
+        };
+        let once = with("0 <-> 1\n1 -> 2\n");
+        for twins in [
+            "0 -> 1\n1 -> 2\n0 -> 1\n1 -> 0\n1 -> 2\n",
+            "0 <-> 1, 1\n1 -> 2, 0, 2\n",
+            &"0 <-> 1\n1 -> 2\n".repeat(1_000),
+        ] {
+            let chart = with(twins);
+            assert_eq!(chart, once);
+            assert_eq!(card(&chart.network), card(&once.network));
+        }
+        let self_link = mistakes("offices 2\nmay fail 0\n0 -> 1, 1, 0\n");
+        assert_eq!(self_link, ["line 3: a link from office 0 to itself"]);
     }
 
     #[test]

@@ -20,7 +20,7 @@ pub fn explain(site: &Site) -> Result<Answer, Unreadable> {
     };
     let (names, note) = site.names(&network);
     answer.notes.extend(note);
-    answer.line(&size(&network));
+    answer.line(&size(&network, &card));
 
     match agreement::split_test(&card) {
         Ok(None) => answer.line(&format!("no bad split: {}", can_agree(&network))),
@@ -70,11 +70,18 @@ pub fn explain(site: &Site) -> Result<Answer, Unreadable> {
     }
 }
 
-/// `5 offices, at most 1 may fail, 15 links`.
-fn size(network: &Network) -> String {
+/// `5 offices, at most 1 may fail, 15 links`, and where the card gives links again how
+/// many it gives: ` (17 cables)`.
+fn size(network: &Network, card: &[u8]) -> String {
     let links = network.rows.iter().map(|row| row.len()).sum();
+    // Head and links have three bytes each, the end has one.
+    let given = card.len() / 3 - 1;
+    let cables = match given == links {
+        true => String::new(),
+        false => format!(" ({})", counted(given, "cable")),
+    };
     format!(
-        "{} offices, {}, {}",
+        "{} offices, {}, {}{cables}",
         network.n,
         at_most(network.f),
         counted(links, "link")

@@ -126,7 +126,7 @@ mod tests {
     #[test]
     fn every_refusal_of_a_card_is_told() {
         let mut rng = Rng::new(4);
-        let mut told = [0; 7];
+        let mut told = [0; 6];
         for _ in 0..20_000 {
             let card = generate::card(&mut rng);
             let Err(refusal) = agreement::read_card(&card) else {

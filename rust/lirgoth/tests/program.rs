@@ -99,6 +99,28 @@ fn out(args: &[&str], status: i32) -> String {
 }
 
 #[test]
+fn twin_cables_are_one_link_and_are_counted() {
+    let site = copy_of("dry-bulk");
+    let card = fs::read(site.path("network.card")).expect("it was written");
+    let before = out(&["chart", &site.shown("")], ANSWERED);
+    // The first two links once more, and one of them a third time.
+    let twins = [&card[..9], &card[3..9], &card[3..6], &card[9..]].concat();
+    fs::write(site.path("network.card"), &twins).expect("it can be written");
+    let explained = out(&["explain", &site.shown("")], UNUSABLE);
+    let size = "5 offices, at most 1 may fail, 15 links (18 cables)\n";
+    let rest = "no bad split: the offices can agree, whichever one of them fails\n\
+                plan accepted: 50 blocks and 464 carriages\n";
+    assert_eq!(explained, format!("{size}{rest}"));
+    assert_eq!(out(&["chart", &site.shown("")], ANSWERED), before);
+
+    let chart = format!("{CHART}Oslo -> Geneva, Geneva\nGeneva <-> Oslo # the way back is new\n");
+    let folder = Folder::with(&[("desk.chart", chart.as_bytes())]);
+    let hex = out(&["card", "--hex", &folder.shown("desk.chart")], ANSWERED);
+    let given = |link: &str| hex.lines().filter(|line| *line == link).count();
+    assert_eq!([given("02 01 00"), given("02 00 01")], [1, 1], "{hex}");
+}
+
+#[test]
 fn from_a_chart_typed_by_hand_to_a_card_and_a_picture() {
     let folder = Folder::with(&[("desk.chart", CHART.as_bytes())]);
     let (chart, site) = (folder.shown("desk.chart"), folder.shown("site"));

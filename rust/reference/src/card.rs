@@ -66,15 +66,14 @@ impl Network {
     }
 
     /// Enters the link `u` to `v`; answers with the ground if it is refused.
+    ///
+    /// Two cables between the same servers count as one link, so a mark that is set
+    /// already stays set.
     fn add_link(&mut self, u: u8, v: u8) -> Result<(), u8> {
         if u >= self.n || v >= self.n || u == v {
             return Err(ground::OUT_OF_RANGE);
         }
-        let mark = &mut self.links[usize::from(u)][usize::from(v)];
-        if *mark {
-            return Err(ground::LINK_REPEATED);
-        }
-        *mark = true;
+        self.links[usize::from(u)][usize::from(v)] = true;
         Ok(())
     }
 }
@@ -136,6 +135,7 @@ fn refused(number: u8, place: usize) -> Refusal {
 #[cfg(test)]
 mod tests {
     use super::*;
+    use crate::sample::{card, complete_card, P1_CARD};
 
     fn fault(card: &[u8]) -> (u8, usize) {
         match read_card(card) {
@@ -152,6 +152,15 @@ mod tests {
         }
         card.truncate(length);
         card
+    }
+
+    /// The network with just these links, marked without reading a card.
+    fn marked(n: u8, f: u8, given: &[(u8, u8)]) -> Network {
+        let mut links = [[false; 8]; 8];
+        for &(u, v) in given {
+            links[usize::from(u)][usize::from(v)] = true;
+        }
+        Network { n, f, links }
     }
 
     #[test]
@@ -199,7 +208,7 @@ mod tests {
         assert_eq!(fault(&[0xff; 1_025]), (1, 0));
         assert_eq!(fault(&repeating(1_025)), (1, 0));
         assert_eq!(fault(&repeating(2_000)), (1, 0));
-        assert_eq!(fault(&repeating(1_024)), (6, 6));
+        assert_eq!(fault(&repeating(1_024)), (2, 1_023));
         assert_eq!(fault(&[0xff; 1_024]), (2, 0));
     }
 
@@ -283,24 +292,117 @@ mod tests {
     }
 
     #[test]
-    fn refusal_6_link_given_before() {
-        let card = [0x01, 0x02, 0x00, 0x02, 0x00, 0x01, 0x02, 0x00, 0x01, 0x03];
-        assert_eq!(fault(&card), (6, 6));
-        let back_is_another_link = [0x01, 0x02, 0x00, 0x02, 0x00, 0x01, 0x02, 0x01, 0x00, 0x03];
-        assert!(read_card(&back_is_another_link).is_ok());
+    fn a_link_given_again_is_one_link() {
+        let p1 = read_card(&P1_CARD).unwrap();
+        for times in 1..=340 {
+            let repeated = card(2, 0, &vec![(0, 1); times]);
+            assert_eq!(read_card(&repeated), Ok(p1), "{times} times");
+        }
+        let back_is_another_link = card(2, 0, &[(0, 1), (1, 0)]);
+        assert_ne!(read_card(&back_is_another_link), Ok(p1));
+    }
+
+    #[test]
+    fn a_link_may_come_again_after_others() {
+        let given = [(0, 1), (2, 0), (0, 1), (1, 2), (2, 0), (0, 1)];
+        let network = marked(3, 1, &[(0, 1), (1, 2), (2, 0)]);
+        assert_eq!(read_card(&card(3, 1, &given)), Ok(network));
+    }
+
+    #[test]
+    fn a_link_given_again_takes_up_its_bytes() {
+        let full = card(2, 0, &[(0, 1); 340]);
+        assert_eq!(full.len(), 1_024);
+        assert_eq!(read_card(&full), read_card(&P1_CARD));
+        assert_eq!(fault(&card(2, 0, &[(0, 1); 341])), (1, 0));
+        let one_byte_more = [&full[..], &[0x03]].concat();
+        assert_eq!(fault(&one_byte_more), (1, 0), "1 goes before 3");
+    }
+
+    #[test]
+    fn faults_after_a_link_given_again_keep_number_and_place() {
+        let cases: [(&[u8], (u8, usize)); 14] = [
+            (&[], (2, 9)),
+            (&[0xee], (2, 9)),
+            (&[0x00, 0x00, 0x01, 0x03], (2, 9)),
+            (&[0x02], (2, 9)),
+            (&[0x02, 0x00], (2, 9)),
+            (&[0x01, 0x02], (2, 9)),
+            (&[0x03, 0x03], (3, 10)),
+            (&[0x03, 0x02, 0x00, 0x01], (3, 10)),
+            (&[0x01, 0x02, 0x00, 0x03], (4, 9)),
+            (&[0x01, 0x09, 0x09, 0x03], (4, 9)),
+            (&[0x02, 0x02, 0x00, 0x03], (5, 9)),
+            (&[0x02, 0x00, 0x02, 0x03], (5, 9)),
+            (&[0x02, 0x01, 0x01, 0x03], (5, 9)),
+            (&[0x02, 0x00, 0x01, 0x02, 0x00, 0xff, 0x03], (5, 12)),
+        ];
+        for (rest, answer) in cases {
+            let card = [&repeating(9), rest].concat();
+            assert_eq!(fault(&card), answer, "{card:02x?}");
+        }
+        assert_eq!(fault(&repeating(8)), (2, 6), "second link cut off");
+        assert_eq!(fault(&repeating(7)), (2, 6), "second link cut off");
     }
 
     #[test]
     fn the_first_fault_from_the_front_is_named() {
-        // A repeated link, then an unknown command.
-        let card = [0x01, 0x02, 0x00, 0x02, 0x00, 0x01, 0x02, 0x00, 0x01, 0xee];
-        assert_eq!(fault(&card), (6, 6));
+        // A repeated link, then a server out of range, then an unknown command.
+        let card = [&repeating(9)[..], &[0x02, 0x00, 0x02, 0xee]].concat();
+        assert_eq!(fault(&card), (5, 9));
+    }
+
+    #[test]
+    fn a_link_that_is_refused_is_refused_where_it_first_stands() {
+        for (u, v) in [(0, 3), (3, 0), (1, 1), (0xff, 0xff)] {
+            assert_eq!(fault(&card(3, 0, &[(u, v), (u, v)])), (5, 3));
+            assert_eq!(fault(&card(3, 0, &[(0, 1), (0, 1), (u, v)])), (5, 9));
+        }
+    }
+
+    #[test]
+    fn no_server_is_linked_to_itself_whatever_links_it_has() {
+        for u in 0..8 {
+            let w = (u + 1) % 8;
+            assert_eq!(fault(&card(8, 0, &[(u, w), (u, u)])), (5, 6));
+            assert_eq!(fault(&card(8, 0, &[(w, u), (u, u)])), (5, 6));
+            assert_eq!(fault(&card(8, 0, &[(u, w), (u, w), (u, u)])), (5, 9));
+        }
+    }
+
+    #[test]
+    fn only_the_set_of_links_counts_on_three_servers() {
+        let all = [(0, 1), (0, 2), (1, 0), (1, 2), (2, 0), (2, 1)];
+        // Every list of up to five links, with all orders and repetitions.
+        let mut lists = vec![Vec::new()];
+        while let Some(list) = lists.pop() {
+            assert_eq!(read_card(&card(3, 1, &list)), Ok(marked(3, 1, &list)));
+            if list.len() < 5 {
+                lists.extend(all.map(|link| [&list[..], &[link]].concat()));
+            }
+        }
+    }
+
+    #[test]
+    fn only_the_set_of_links_counts_on_eight_servers() {
+        let all: Vec<(u8, u8)> = (0..64)
+            .map(|pair| (pair / 8, pair % 8))
+            .filter(|(u, v)| u != v)
+            .collect();
+        for size in 1..=all.len() {
+            let set = &all[..size];
+            let network = marked(8, 2, set);
+            // A stride without a common factor meets all of the set, over and over.
+            for stride in [1, 59, 61, 67] {
+                let given: Vec<_> = (0..340).map(|i| set[i * stride % size]).collect();
+                assert_eq!(read_card(&card(8, 2, &given)), Ok(network));
+            }
+        }
     }
 
     #[test]
     fn all_links_of_eight_servers_fit() {
-        let card = crate::sample::complete_card(8, 2);
-        let network = read_card(&card).unwrap();
+        let network = read_card(&complete_card(8, 2)).unwrap();
         for u in 0..8 {
             for v in 0..8 {
                 assert_eq!(network.has_link(u, v), u != v);

@@ -296,7 +296,7 @@ fn refused(number: u8, place: usize) -> Refusal {
 #[cfg(test)]
 mod tests {
     use super::*;
-    use crate::sample::{card, complete_card, direct_plan, Quorum, P1_CARD, P5_PLAN};
+    use crate::sample::{card, complete_card, direct_plan, twin_card, Quorum, P1_CARD, P5_PLAN};
 
     fn fault(card: &[u8], plan: &[u8]) -> (u8, usize) {
         match check_plan(card, plan) {
@@ -718,6 +718,17 @@ mod tests {
         assert_eq!(plan[13..16], [0x11, 2, 0]);
         plan[14] = 1;
         assert_eq!(fault(&card, &plan), (10, 13));
+    }
+
+    #[test]
+    fn twin_cables_carry_no_two_separate_routes() {
+        let mut four = Four::new();
+        let totals = check_plan(&four.card, &four.plan);
+        four.card = twin_card(&four.card);
+        assert!(totals.is_ok());
+        assert_eq!(check_plan(&four.card, &four.plan), totals);
+        let doubled = four.fault_with(SECOND_FROM_S, &[0x13, 1, 0]);
+        assert_eq!(doubled, (10, SECOND_FROM_S));
     }
 
     #[test]

@@ -7,7 +7,7 @@
 /// stands there when no such command exists.
 #[derive(Debug, Clone, Copy, PartialEq, Eq)]
 pub enum Refusal {
-    /// The network card is at fault (numbers 1 to 6).
+    /// The network card is at fault (numbers 1 to 5).
     Card { number: u8, place: usize },
     /// The route plan is at fault (numbers 1 to 3 and 7 to 11).
     Plan { number: u8, place: usize },
@@ -15,7 +15,7 @@ pub enum Refusal {
     Call { number: u8 },
 }
 
-/// The numbers of the table of refusals in docs/FORMATS.md.
+/// The numbers of the table of refusals in docs/FORMATS.md; 6 is no longer given.
 pub(crate) mod ground {
     /// Card or plan over its length.
     pub const TOO_LONG: u8 = 1;
@@ -27,8 +27,6 @@ pub(crate) mod ground {
     pub const OPENING_MISPLACED: u8 = 4;
     /// Card: n, f or a server out of range, or a link from a server to itself.
     pub const OUT_OF_RANGE: u8 = 5;
-    /// Card: the link was given before.
-    pub const LINK_REPEATED: u8 = 6;
     /// Plan: the command, or the F and A of a block, is not the one due.
     pub const NOT_DUE: u8 = 7;
     /// Plan: S is empty or not within V - F.

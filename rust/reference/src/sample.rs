@@ -28,6 +28,12 @@ pub(crate) fn complete_card(n: u8, f: u8) -> Vec<u8> {
     card(n, f, &links)
 }
 
+/// The same card with every link given once more, as for twin cables.
+pub(crate) fn twin_card(card: &[u8]) -> Vec<u8> {
+    let links = &card[3..card.len() - 1];
+    [&card[..3], links, links, &[0x03]].concat()
+}
+
 /// Which set S the blocks of [`direct_plan`] use.
 #[derive(Clone, Copy)]
 pub(crate) enum Quorum {

@@ -54,7 +54,7 @@ fn incoming_neighbours(incoming: &[u8; MAX_SERVERS], set: u8) -> u8 {
 #[cfg(test)]
 mod tests {
     use super::*;
-    use crate::sample::{card, complete_card};
+    use crate::sample::{card, complete_card, twin_card};
 
     #[test]
     fn p1_has_no_bad_split() {
@@ -119,6 +119,15 @@ mod tests {
             r: 2,
         };
         assert_eq!(split_test(&card(3, 0, &[(0, 2), (1, 2)])), Ok(Some(bad)));
+    }
+
+    #[test]
+    fn twin_cables_bring_no_further_neighbour() {
+        let p3 = complete_card(3, 1);
+        assert!(split_test(&p3).unwrap().is_some());
+        assert_eq!(split_test(&twin_card(&p3)), split_test(&p3));
+        let p4 = complete_card(4, 1);
+        assert_eq!(split_test(&twin_card(&p4)), Ok(None));
     }
 
     /// The definition spelled out server by server over the links, every split

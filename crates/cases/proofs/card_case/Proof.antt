@@ -1,4 +1,4 @@
--- `cases::card_case` runs. The invariant of its loop: no word past the fifth is read. The measure is how many words are left.
+-- `cases::card_case` runs. The invariant of its loop: no word past the twelfth is read. The measure is how many words are left.
 -- Assumes nothing of its own; the C functions that it calls are those of `libc`.
 use Prim.Native.Nat.{_-_, _≤_}
 use borrow.Author.Needs.{needs}
@@ -7,37 +7,17 @@ use Rattle.cases.proofs.card_case.Tie as tie
 use Rattle.cases.proofs.card_case.Reads as reads
 use Rattle.cases.proofs.card_case.Lts as lts
 use Rattle.agreement.proofs.agreement_read_card.Reads as agreement-read-card-reads
-use Rattle.agreement.proofs.agreement_split_test.Reads as agreement-split-test-reads
 use Rattle.cases.proofs.end_line.Reads as end-line-reads
 use Rattle.cases.proofs.print_word.Reads as print-word-reads
-use Rattle.cases.proofs.print_words.Reads as print-words-reads
 
 abbrev Inv-loop : tie.InvT-loop
-Inv-loop card split i₀ i = i ≤ 5
+Inv-loop card answer i₀ i = i ≤ 12
 
 abbrev μ-loop : tie.MeasureT-loop
-μ-loop card split i₀ i = 5 - i
+μ-loop card answer i₀ i = 12 - i
 
 agreement-read-card-requires : tie.Need-agreement-read-card-requires Inv-loop μ-loop
 agreement-read-card-requires c κs = search needs
-
-array-read-t9 : tie.Need-array-read-t9 Inv-loop μ-loop
-array-read-t9 c = search needs
-
-array-read-t12 : tie.Need-array-read-t12 Inv-loop μ-loop
-array-read-t12 c = search needs
-
-array-read-t15 : tie.Need-array-read-t15 Inv-loop μ-loop
-array-read-t15 c = search needs
-
-array-read-t18 : tie.Need-array-read-t18 Inv-loop μ-loop
-array-read-t18 c = search needs
-
-print-words-requires : tie.Need-print-words-requires Inv-loop μ-loop
-print-words-requires c κs = search needs
-
-agreement-split-test-requires : tie.Need-agreement-split-test-requires Inv-loop μ-loop
-agreement-split-test-requires c κs = search needs
 
 loop-holds : tie.Need-loop-holds Inv-loop μ-loop
 loop-holds c = search needs
@@ -73,12 +53,6 @@ card-case-spec =
     Inv-loop
     μ-loop
     agreement-read-card-requires
-    array-read-t9
-    array-read-t12
-    array-read-t15
-    array-read-t18
-    print-words-requires
-    agreement-split-test-requires
     loop-holds
     mul-print-word
     array-read-print-word

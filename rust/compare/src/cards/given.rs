@@ -6,6 +6,9 @@ use crate::text::{cases, hex, unhex};
 
 const CARDS: &str = include_str!("../../data/cards.tsv");
 
+/// What stands for an answer that is not stated.
+const NOT_STATED: &str = "-";
+
 /// One line of the file.
 struct Case {
     note: &'static str,
@@ -29,13 +32,14 @@ pub fn given_cards() -> Tally {
 }
 
 fn check(who: &str, case: &Case, answers: &Answers) {
-    let answer = format!("{answers}");
-    let stated = format!("{}; {}", case.read, case.split);
+    let is_stated = |stated: &str, answer: String| stated == NOT_STATED || stated == answer;
     assert!(
-        answer == stated,
-        "{who} does not answer as stated\n  card    {} ({})\n  stated  {stated}\n  answer  {answer}",
+        is_stated(case.read, answers.plain_read()) && is_stated(case.split, answers.plain_split()),
+        "{who} does not answer as stated\n  card    {} ({})\n  stated  {}; {}\n  answer  {answers}",
         hex(&case.card),
-        case.note
+        case.note,
+        case.read,
+        case.split
     );
 }
 

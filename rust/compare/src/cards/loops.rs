@@ -1,8 +1,11 @@
 //! The cards on which library and reference are compared.
 
+use super::answers::Answers;
 use super::tally::Tally;
 use crate::repeated;
-use generate::{all_links, card, card_of, complete_card, network_card, network_card_with, Rng};
+use generate::{
+    all_links, card, card_of, complete_card, network_card, network_card_with, with_twins, Rng,
+};
 use std::ops::Range;
 
 /// Every n and f that a card may have.
@@ -48,6 +51,24 @@ pub fn networks_of_every_density(rounds: impl Fn(u8, u8) -> u64) -> Tally {
                     format_args!("network_card_with, n {n}, f {f}, {count} links, seed {seed}"),
                 );
             }
+        }
+    }
+    tally
+}
+
+/// For every n and f and each seed a random network, and the same one with links given
+/// again: both answers are those without.
+pub fn twin_cables(seeds: Range<u64>) -> Tally {
+    let mut tally = Tally::default();
+    for (n, f) in sizes() {
+        for seed in seeds.clone() {
+            let mut rng = Rng::new(seed);
+            let card = network_card(&mut rng, n, f);
+            let twins = with_twins(&mut rng, &card);
+            let made_by = format_args!("twin_cables, n {n} f {f} seed {seed}");
+            tally.compare(&twins, made_by);
+            let (alone, twice) = (Answers::of_library(&card), Answers::of_library(&twins));
+            assert_eq!(alone, twice, "{made_by}");
         }
     }
     tally

@@ -12,8 +12,8 @@ pub struct Tally {
     pub without_bad_split: usize,
     /// Accepted cards whose network has one.
     pub with_bad_split: usize,
-    /// Refused cards by the refusal's number, 1 to 6; there is no number 0.
-    pub refused: [usize; 7],
+    /// Refused cards by the refusal's number, 1 to 5; there is no number 0.
+    pub refused: [usize; 6],
 }
 
 impl Tally {
@@ -55,7 +55,7 @@ impl Display for Tally {
     fn fmt(&self, out: &mut Formatter) -> fmt::Result {
         write!(
             out,
-            "{} cards, {} accepted ({} without and {} with a bad split), refused 1 to 6: {:?}",
+            "{} cards, {} accepted ({} without and {} with a bad split), refused 1 to 5: {:?}",
             self.cards(),
             self.accepted(),
             self.without_bad_split,

@@ -18,6 +18,7 @@ pub fn stated(documents: &Documents) -> Held {
     let page = &documents.formats;
     page.says_all(&written())?;
     page.says_all(&absent_files())?;
+    hold(page, "Network card", twins)?;
     hold(
         page,
         "Carriages, and what the plan check answers",
@@ -60,6 +61,25 @@ fn written() -> Vec<String> {
         format!("`FF x 6` stands for {times} times {byte}."),
         format!("`buffer 1` means that the library's run is called with {lent} byte lent"),
     ]
+}
+
+/// The link that the card gives twice.
+fn twins(examples: &[Example]) -> Option<Vec<String>> {
+    let [example] = examples else { return None };
+    let card = &example.files.card;
+    let [HEAD, _, _, LINK, u, v, LINK, again @ .., CARD_END] = &card[..] else {
+        return None;
+    };
+    let once = Files {
+        card: [&card[..6], &card[9..]].concat(),
+        ..example.files.clone()
+    };
+    let same = rehearsed(&once) == rehearsed(&example.files);
+    (again == [*u, *v] && same).then(|| {
+        vec![format!(
+            "Here the link from {u} to {v} is given twice, and all goes as it does with one:"
+        )]
+    })
 }
 
 /// What is printed where a file is not there.

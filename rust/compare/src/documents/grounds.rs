@@ -55,6 +55,15 @@ pub fn numbers() -> Vec<u8> {
     all
 }
 
+/// The numbers below the highest one that no file has: what they stood for is accepted.
+pub fn no_longer_given() -> Vec<u8> {
+    let numbers = numbers();
+    let last = numbers.last().copied().unwrap_or_default();
+    (1..last)
+        .filter(|number| !numbers.contains(number))
+        .collect()
+}
+
 /// The files that have a refusal of this number.
 pub fn files(number: u8) -> Vec<File> {
     let has = |file: &File| file.numbers().contains(&number);

@@ -137,15 +137,23 @@ impl Entry {
     }
 }
 
-/// The table has the wrapper's numbers, ascending, each with its files.
+/// The table has the wrapper's numbers, ascending, each with its files; a number that is
+/// no longer given is among them, and says so.
 pub fn same_table(page: &Page) -> Held {
-    let (rows, numbers) = (table(page), grounds::numbers());
+    let no_longer_given = grounds::no_longer_given();
+    let mut numbers = [grounds::numbers(), no_longer_given.clone()].concat();
+    numbers.sort_unstable();
+    let rows = table(page);
     for (row, &number) in rows.iter().zip(&numbers) {
         let (files, stated) = (grounds::files(number), row.files());
         if row.number != number {
             return Err(page.fault(row.line, format!("refusal {number} should stand here")));
         }
-        if stated != files {
+        if no_longer_given.contains(&number) {
+            if !row.words.starts_with("no longer given: ") {
+                return Err(page.fault(row.line, format!("refusal {number} is no longer given")));
+            }
+        } else if stated != files {
             let what = format!("refusal {number} is of {files:?}, not of {stated:?}");
             return Err(page.fault(row.line, what));
         }

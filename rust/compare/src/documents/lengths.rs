@@ -9,7 +9,7 @@ use super::Documents;
 use crate::planned;
 use crate::rehearsals::FILE_LIMIT;
 use agreement::{check_plan, read_card, CardGround, PlanGround, Refusal, ServerSet};
-use generate::{complete_card, places, Rng};
+use generate::{card_of, complete_card, places, Rng};
 
 /// The sentences on plans that `rehearse` has no room for, on the longest plan and on the
 /// longest card.
@@ -39,10 +39,12 @@ pub fn stated(documents: &Documents) -> Held {
             grouped(longest.longest)
         ),
         format!(
-            "{} servers with all {} links take a card of {} bytes, and no accepted card is longer.",
+            "{} servers with all {} links take a card of {} bytes if each is given once, and a \
+             card has room for {} links in all, those given again included.",
             capital(word(n)),
             n * (n - 1),
-            longest_card().len()
+            complete_card(SIZES.n.most(), SIZES.f.most()).len(),
+            most_links()
         ),
     ])
 }
@@ -55,24 +57,36 @@ fn size(extreme: &Extreme) -> String {
     format!("n {} f {}", extreme.n, extreme.f)
 }
 
-fn longest_card() -> Vec<u8> {
-    complete_card(SIZES.n.most(), SIZES.f.most())
+/// How often a link can be given before the card is too long.
+fn most_links() -> usize {
+    let with = |links| {
+        read_card(&card_of(
+            SIZES.n.most(),
+            SIZES.f.most(),
+            &vec![(0, 1); links],
+        ))
+    };
+    (0..)
+        .find(|&links| with(links + 1).is_err())
+        .expect("cards have a limit")
 }
 
-/// No link can be added to the longest card.
-pub fn no_card_is_longer() {
-    let card = longest_card();
-    assert!(read_card(&card).is_ok(), "the longest card is accepted");
+/// All links there can be, given once, are read as all links; no other can be added.
+pub fn no_card_has_more_links() {
+    let (n, f) = (SIZES.n.most(), SIZES.f.most());
+    let card = complete_card(n, f);
+    let network = read_card(&card).expect("all links are accepted");
     let start = &card[..card.len() - 1];
     for (u, v) in (0..=u8::MAX).flat_map(|u| (0..=u8::MAX).map(move |v| (u, v))) {
         let longer = [start, &[LINK, u, v, CARD_END]].concat();
-        let refused = match read_card(&longer) {
+        match read_card(&longer) {
+            Ok(again) => assert!(again == network && network.linked(u, v), "{u} to {v}"),
             Err(Refusal::Card { ground, place }) => {
-                place == start.len() && matches!(ground, CardGround::Range | CardGround::Repeated)
+                let refused = (ground, place) == (CardGround::Range, start.len());
+                assert!(refused && (u >= n || v >= n || u == v), "{u} to {v}");
             }
-            _ => false,
-        };
-        assert!(refused, "a link from {u} to {v} beside all links");
+            Err(other) => panic!("a link from {u} to {v} beside all links: {other}"),
+        }
     }
 }
 

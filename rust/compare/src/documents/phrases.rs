@@ -39,7 +39,6 @@ fn on_cards() -> Vec<String> {
         format!("Begin the card with {head}, n and f, and give them once."),
         format!("The place is that of the {head} or {link}."),
         "Number the offices from 0, so that the last one is n−1".to_string(),
-        format!("The same u and v stand in an earlier {link}."),
         format!("A byte follows {end} in a card or {plan_end} in a plan."),
         format!("in an empty card, a card without {end} and a plan without {plan_end}:"),
         format!("then {end}, a command of the card, stands in a plan:"),

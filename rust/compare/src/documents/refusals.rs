@@ -81,6 +81,7 @@ pub fn listed(documents: &Documents) -> Held {
         format!("meets none of {of_card},"),
         format!("none of {of_run_in}."),
         format!("then {call} of the call."),
+        format!("{} is no longer given:", row(grounds::no_longer_given())),
         format!("In the order of the table: {card} in a card; {plan} in a plan."),
     ])?;
     documents.header.says(&format!(

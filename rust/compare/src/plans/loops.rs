@@ -3,8 +3,8 @@
 use super::tally::{Damages, Tally};
 use crate::{planned, repeated};
 use generate::{
-    all_links, broken_off_plan, card_of, complete_card, damaged_plan, network_card, places, Rng,
-    DAMAGES,
+    all_links, broken_off_plan, card_of, complete_card, damaged_plan, network_card, places,
+    with_twins, Rng, DAMAGES,
 };
 use std::ops::Range;
 
@@ -109,6 +109,28 @@ pub fn other_cards(seeds: Range<u64>) -> Tally {
         for (number, other) in others.iter().enumerate() {
             let made_by = format_args!("other_cards, n {n} f {f} seed {seed}, card {number}");
             let _ = tally.compare(other, &plan, made_by);
+        }
+    }
+    tally
+}
+
+/// Plans for networks whose cards give links again, as they are and damaged `times`
+/// times: each gets the answer that it gets with the card that gives each link once.
+pub fn twin_cables(seeds: Range<u64>, times: usize) -> Tally {
+    let mut tally = Tally::default();
+    for seed in seeds {
+        let mut rng = Rng::new(seed);
+        let (n, f) = [(2, 0), (3, 0), (4, 0), (5, 0), (4, 1), (5, 1)][seed as usize % 6];
+        let (card, plan) = planned(&mut rng, n, f);
+        for number in 0..=times {
+            let plan = match number {
+                0 => plan.clone(),
+                _ => damaged_plan(&mut rng, &card, &plan),
+            };
+            let twins = with_twins(&mut rng, &card);
+            let made_by = format_args!("twin_cables, n {n} f {f} seed {seed}, plan {number}");
+            let alone = tally.compare(&card, &plan, made_by);
+            assert_eq!(tally.compare(&twins, &plan, made_by), alone, "{made_by}");
         }
     }
     tally

@@ -22,8 +22,8 @@ pub(super) fn plain(answer: Answer) -> String {
 pub struct Tally {
     /// Accepted plans.
     pub accepted: usize,
-    /// Calls with a refused card by the refusal's number, 1 to 6; there is no number 0.
-    pub card_refused: [usize; 7],
+    /// Calls with a refused card by the refusal's number, 1 to 5; there is no number 0.
+    pub card_refused: [usize; 6],
     /// Refused plans by the refusal's number; 4 to 6 are no numbers of a plan.
     pub plan_refused: [usize; 12],
 }
@@ -75,7 +75,7 @@ impl Display for Tally {
     fn fmt(&self, out: &mut Formatter) -> fmt::Result {
         write!(
             out,
-            "{} plans, {} accepted, card refused 1 to 6: {:?}, plan refused 1 to 3: {:?}, 7 to 11: {:?}",
+            "{} plans, {} accepted, card refused 1 to 5: {:?}, plan refused 1 to 3: {:?}, 7 to 11: {:?}",
             self.plans(),
             self.accepted,
             &self.card_refused[1..],

@@ -4,8 +4,8 @@ use super::tally::{Call, Tally};
 use crate::plans::PLAN_LIMIT;
 use crate::{planned, repeated};
 use generate::{
-    aimed_table, carriages, complete_card, damaged_plan, faulty, inputs, lent, table, Carriage,
-    Rng, AIMS,
+    aimed_table, carriages, complete_card, damaged_plan, faulty, inputs, lent, table, with_twins,
+    Carriage, Rng, AIMS,
 };
 use std::ops::Range;
 
@@ -96,7 +96,34 @@ pub fn random_calls(n: u8, f: u8, seeds: Range<u64>, times: usize) -> Tally {
             };
             let made_by =
                 format_args!("random_calls, n {n} f {f} seed {seed}, call {number}, {kind} table");
-            tally.compare(&call, made_by);
+            let _ = tally.compare(&call, made_by);
+        }
+    }
+    tally
+}
+
+/// For each seed a network of `n` servers and `f` faults with an accepted plan, and
+/// `times` right calls with a card that gives links again: each server decides what it
+/// decides with the card that gives each link once.
+pub fn twin_cables(n: u8, f: u8, seeds: Range<u64>, times: usize) -> Tally {
+    let mut tally = Tally::default();
+    for seed in seeds {
+        let mut rng = Rng::new(seed);
+        let planned = Planned::draw(&mut rng, n, f);
+        let right: Vec<u8> = planned.faulty_sets().collect();
+        for number in 0..times {
+            let inputs = any_bits(&mut rng, n);
+            let faulty = right[rng.below(right.len())];
+            let (table, kind) = planned.any_table(&mut rng, &inputs);
+            let alone = planned.call(&inputs, faulty, &table);
+            let twins = Call {
+                card: &with_twins(&mut rng, &planned.card),
+                ..alone
+            };
+            let made_by =
+                format_args!("twin_cables, n {n} f {f} seed {seed}, call {number}, {kind} table");
+            let outcome = tally.compare(&alone, made_by);
+            assert_eq!(tally.compare(&twins, made_by), outcome, "{made_by}");
         }
     }
     tally
@@ -117,7 +144,7 @@ pub fn every_faulty_set(n: u8, f: u8, seeds: Range<u64>, times: usize) -> Tally 
                 let (table, kind) = planned.any_table(&mut rng, &inputs);
                 let made_by =
                     format_args!("every_faulty_set, n {n} f {f} seed {seed}, {kind} table");
-                tally.compare(&planned.call(&inputs, faulty, &table), made_by);
+                let _ = tally.compare(&planned.call(&inputs, faulty, &table), made_by);
             }
         }
     }
@@ -150,7 +177,7 @@ pub fn every_input(n: u8, f: u8, seeds: Range<u64>) -> Tally {
                 for (number, table) in tables.enumerate() {
                     let made_by =
                         format_args!("every_input, n {n} f {f} seed {seed}, table {number}");
-                    tally.compare(&planned.call(&inputs, faulty, table), made_by);
+                    let _ = tally.compare(&planned.call(&inputs, faulty, table), made_by);
                 }
             }
         }
@@ -177,16 +204,16 @@ pub fn every_table(n: u8, f: u8, seeds: Range<u64>) -> Tally {
             let mut table: Vec<u8> = (0..count + 6).map(|_| rng.below(2) as u8).collect();
             for length in 0..=table.len() {
                 let made_by = format_args!("every_table, n {n} f {f} seed {seed}, cut at {length}");
-                tally.compare(&planned.call(&inputs, faulty, &table[..length]), made_by);
+                let _ = tally.compare(&planned.call(&inputs, faulty, &table[..length]), made_by);
             }
             for byte in 0..=u8::MAX {
                 let made_by = format_args!("every_table, n {n} f {f} seed {seed}, all {byte}");
                 let all = vec![byte; count];
-                tally.compare(&planned.call(&inputs, faulty, &all), made_by);
+                let _ = tally.compare(&planned.call(&inputs, faulty, &all), made_by);
             }
             let long = repeated(&[], &table, 2 * PLAN_LIMIT + 1);
             let made_by = format_args!("every_table, n {n} f {f} seed {seed}, long");
-            tally.compare(&planned.call(&inputs, faulty, &long), made_by);
+            let _ = tally.compare(&planned.call(&inputs, faulty, &long), made_by);
             let in_hand = |carriage: &Carriage| carriage.senders & faulty != 0;
             for place in (0..count).filter(|&place| in_hand(&planned.carriages[place])) {
                 let old = table[place];
@@ -194,7 +221,7 @@ pub fn every_table(n: u8, f: u8, seeds: Range<u64>) -> Tally {
                     table[place] = byte;
                     let made_by =
                         format_args!("every_table, n {n} f {f} seed {seed}, {byte} at {place}");
-                    tally.compare(&planned.call(&inputs, faulty, &table), made_by);
+                    let _ = tally.compare(&planned.call(&inputs, faulty, &table), made_by);
                 }
                 table[place] = old;
             }
@@ -222,7 +249,7 @@ pub fn late_tables(times: usize) -> Tally {
         let silent = table.len().min(FAR);
         table[..silent].fill(2);
         let made_by = format_args!("late_tables, seed {seed}, {kind} table");
-        tally.compare(&planned.call(&inputs, last_two, &table), made_by);
+        let _ = tally.compare(&planned.call(&inputs, last_two, &table), made_by);
     }
     tally
 }
@@ -296,7 +323,7 @@ pub fn wrong_calls(n: u8, f: u8) -> Tally {
                     lent,
                     ..planned.call(inputs, faulty, &table)
                 };
-                tally.compare(&call, format_args!("wrong_calls, n {n} f {f}"));
+                let _ = tally.compare(&call, format_args!("wrong_calls, n {n} f {f}"));
             }
         }
     }
@@ -306,14 +333,14 @@ pub fn wrong_calls(n: u8, f: u8) -> Tally {
             let mut inputs = any_bits(&mut rng, n);
             inputs[place] = byte;
             let call = planned.call(&inputs, 0, &table);
-            tally.compare(&call, format_args!("wrong_calls, n {n} f {f}, any byte"));
+            let _ = tally.compare(&call, format_args!("wrong_calls, n {n} f {f}, any byte"));
         }
         let inputs = any_bits(&mut rng, n);
         let call = Call {
             lent: usize::from(byte),
             ..planned.call(&inputs, 0, &table)
         };
-        tally.compare(&call, format_args!("wrong_calls, n {n} f {f}, any length"));
+        let _ = tally.compare(&call, format_args!("wrong_calls, n {n} f {f}, any length"));
     }
     tally
 }
@@ -350,7 +377,7 @@ pub fn refused_plans(seeds: Range<u64>, times: usize) -> Tally {
                 lent: lent(&mut rng, n),
             };
             let made_by = format_args!("refused_plans, seed {seed}, call {number}, {kind} table");
-            tally.compare(&call, made_by);
+            let _ = tally.compare(&call, made_by);
         }
     }
     tally

@@ -169,8 +169,8 @@ pub struct Tally {
     pub answered: [usize; 3],
     /// Those of them in which the sound servers' inputs differ, by the decided bit.
     pub contested: [usize; 2],
-    /// Calls with a refused card by the refusal's number, 1 to 6; there is no number 0.
-    pub card_refused: [usize; 7],
+    /// Calls with a refused card by the refusal's number, 1 to 5; there is no number 0.
+    pub card_refused: [usize; 6],
     /// Calls with a refused plan by the refusal's number; 4 to 6 are no numbers of a plan.
     pub plan_refused: [usize; 12],
     /// Refused calls by the refusal's number, 12 to 14.
@@ -201,11 +201,12 @@ impl Tally {
         add(&mut self.call_refused, &other.call_refused);
     }
 
-    /// Has the library and the reference run `call`, and counts the answer.
+    /// Has the library and the reference run `call`, counts the answer and hands it back,
+    /// with the memory.
     ///
     /// Panics if they differ, in the answer or in a byte of memory, or if what they
     /// agree on cannot be; `made_by` then says how to get the call again.
-    pub(super) fn compare(&mut self, call: &Call, made_by: Arguments) {
+    pub(super) fn compare(&mut self, call: &Call, made_by: Arguments) -> Outcome {
         let library = call.of_library();
         let reference = call.of_reference();
         if library != reference {
@@ -218,6 +219,7 @@ impl Tally {
             panic!("{fault}\n{call}\n  made by    {made_by}\n  both       {library}");
         }
         self.count(call, &library);
+        library
     }
 
     fn count(&mut self, call: &Call, outcome: &Outcome) {
@@ -242,7 +244,7 @@ impl Display for Tally {
         write!(
             out,
             "{} runs, answered with 0 to 2 faulty servers: {:?}, of different inputs decided 0 and 1: \
-             {:?}, card refused 1 to 6: {:?}, plan refused 1 to 3: {:?}, 7 to 11: {:?}, \
+             {:?}, card refused 1 to 5: {:?}, plan refused 1 to 3: {:?}, 7 to 11: {:?}, \
              call refused 12 to 14: {:?}",
             self.runs(),
             self.answered,

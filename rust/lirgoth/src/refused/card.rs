@@ -29,7 +29,6 @@ pub(super) fn why(ground: CardGround, place: usize, card: &[u8]) -> Option<Strin
         }
         CardGround::Head => Some("01 stands at the beginning only, and here again".to_string()),
         CardGround::Range => range(card, place),
-        CardGround::Repeated => repeated(card, place),
     }
 }
 
@@ -51,16 +50,4 @@ fn range(card: &[u8], place: usize) -> Option<String> {
     } else {
         format!("{link}: a link from an office to itself")
     })
-}
-
-fn repeated(card: &[u8], place: usize) -> Option<String> {
-    let link = card.get(place..place + 3)?;
-    // The head and every link before it have three bytes.
-    let earlier = (3..place)
-        .step_by(3)
-        .find(|&at| card[at..].starts_with(link))?;
-    let (u, v) = (link[1], link[2]);
-    Some(format!(
-        "link {u} → {v} was given before, at byte {earlier}"
-    ))
 }

@@ -6,7 +6,7 @@ use native.Mathlib.Omega.{arith}
 use borrow.Author.Needs.{needs}
 use lib.ListN.{length}
 use Rattle.network.specs.Links.{noLinks}
-use Rattle.network.proofs.Reading.{Turn, Linking, Fitting, turn-links, linking-fits, linking-range, fitting-repeated, fitting-goes, turn-refused, turn-read, answered-refused, answered-network}
+use Rattle.network.proofs.Reading.{Turn, Linking, Fitting, turn-links, linking-fits, linking-range, fitting-goes, turn-refused, turn-read, answered-refused, answered-network}
 use Rattle.network.proofs.card.read_links.Statement.{statement}
 use Rattle.network.proofs.card.read_links.Tie as tie
 use Rattle.network.proofs.card.read_links.Reads as reads
@@ -62,44 +62,29 @@ cast-row c = omega (arith, fitting c)
 cast-mark : tie.Need-cast-mark Inv-loop μ-loop
 cast-mark c = omega (arith, fitting c)
 
-mul-if3 : tie.Need-mul-if3 Inv-loop μ-loop
-mul-if3 c = omega (arith, fitting c)
-
-index-1-if3 : tie.Need-index-1-if3 Inv-loop μ-loop
-index-1-if3 c = omega (arith, fitting c)
-
-index-2-if3 : tie.Need-index-2-if3 Inv-loop μ-loop
-index-2-if3 c = omega (arith, fitting c)
-
-refused-requires : tie.Need-refused-requires Inv-loop μ-loop
-refused-requires c κs = search needs
-
-returns : tie.Need-returns Inv-loop μ-loop
-returns c = answered-refused _ _ (c .refused .ensures) (fitting-repeated (fitting (c .before .before .before)) (c .before .if3 .taken)) refl
-
 mul-marks : tie.Need-mul-marks Inv-loop μ-loop
-mul-marks c = omega (arith, fitting (c .before .before))
+mul-marks c = omega (arith, fitting c)
 
 index-1-marks : tie.Need-index-1-marks Inv-loop μ-loop
-index-1-marks c = omega (arith, fitting (c .before .before))
+index-1-marks c = omega (arith, fitting c)
 
 index-2-marks : tie.Need-index-2-marks Inv-loop μ-loop
-index-2-marks c = omega (arith, fitting (c .before .before))
+index-2-marks c = omega (arith, fitting c)
 
 add-at : tie.Need-add-at Inv-loop μ-loop
 add-at c = search needs
 
 loop-less : tie.Need-loop-less Inv-loop μ-loop
-loop-less c = omega (arith, fitting (c .before .before))
+loop-less c = omega (arith, fitting c)
 
 loop-again : tie.Need-loop-again Inv-loop μ-loop
 loop-again c = search (fitting-goes, fitting)
 
-refused-requires-2 : tie.Need-refused-requires-2 Inv-loop μ-loop
-refused-requires-2 c κs = search needs
+refused-requires : tie.Need-refused-requires Inv-loop μ-loop
+refused-requires c κs = search needs
 
-returns-2 : tie.Need-returns-2 Inv-loop μ-loop
-returns-2 c = answered-refused _ _ (c .refused2 .ensures) (linking-range (linking (c .before .before .before .before .before)) (c .before .before .link-fits .ensures) (c .before .if2 .left)) refl
+returns : tie.Need-returns Inv-loop μ-loop
+returns c = answered-refused _ _ (c .refused .ensures) (linking-range (linking (c .before .before .before .before .before)) (c .before .before .link-fits .ensures) (c .before .if2 .left)) refl
 
 read-end-requires : tie.Need-read-end-requires Inv-loop μ-loop
 read-end-requires c κs = let e = sym (c .before .whole-link .ensures) ∙ c .if1 .left in search
@@ -110,11 +95,11 @@ enum-known-reading c = search needs
 enum-known-reading-2 : tie.Need-enum-known-reading-2 Inv-loop μ-loop
 enum-known-reading-2 c = search needs
 
-returns-3 : tie.Need-returns-3 Inv-loop μ-loop
-returns-3 c = answered-refused _ _ refl (search turn-refused) refl
+returns-2 : tie.Need-returns-2 Inv-loop μ-loop
+returns-2 c = answered-refused _ _ refl (search turn-refused) refl
 
-returns-4 : tie.Need-returns-4 Inv-loop μ-loop
-returns-4 c = answered-network _ _ _ (search turn-read)
+returns-3 : tie.Need-returns-3 Inv-loop μ-loop
+returns-3 c = answered-network _ _ _ (search turn-read)
 
 pub read-links-spec : {M : Type 1} → statement M
 read-links-spec =
@@ -131,21 +116,16 @@ read-links-spec =
     link-fits-requires
     cast-row
     cast-mark
-    mul-if3
-    index-1-if3
-    index-2-if3
-    refused-requires
-    returns
     mul-marks
     index-1-marks
     index-2-marks
     add-at
     loop-less
     loop-again
-    refused-requires-2
-    returns-2
+    refused-requires
+    returns
     read-end-requires
     enum-known-reading
     enum-known-reading-2
-    returns-3
-    returns-4)
+    returns-2
+    returns-3)
