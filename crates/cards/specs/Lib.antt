@@ -1,0 +1,2 @@
+-- Twins    a link given again is one link
+pub mod Twins
