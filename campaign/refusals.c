@@ -287,18 +287,35 @@ static void calls(struct list card, struct list plan)
     call_refused("one byte lent to two servers", card, plan, call, AGREEMENT_SHORT_BUFFER);
 }
 
-/* The smallest site, and two servers without a link. */
-static void small_site(struct list card, struct list plan)
+/* Two servers with a link from 0 to 1, the smallest site. */
+static void small_site(const char *what, struct list card, struct list plan)
 {
     const uint64_t network[12] = {AGREEMENT_ANSWERED, 2, 0, 0, 2};
     const uint64_t none[5] = {AGREEMENT_ANSWERED};
-    const uint64_t split[5] = {AGREEMENT_BAD_SPLIT, 0, 1, 0, 2};
     const uint64_t totals[4] = {AGREEMENT_ANSWERED, 1, 1, 0};
-    read_card("the small site", card, network);
-    split_test("the small site", card, none);
+    read_card(what, card, network);
+    split_test(what, card, none);
+    check_plan(what, card, plan, totals);
+    run(what, card, plan, two_servers, totals, 2);
+}
+
+/* The same link as often as a card has room for it: one link. */
+static void twin_cables(struct list plan)
+{
+    static uint8_t bytes[AGREEMENT_CARD_LIMIT] = {HEAD, 2, 0};
+    for (size_t place = 3; place < sizeof bytes - 1; place += 3) {
+        bytes[place] = LINK;
+        bytes[place + 1] = 0;
+        bytes[place + 2] = 1;
+    }
+    bytes[sizeof bytes - 1] = CARD_END;
+    small_site("a link given again up to the limit", (struct list){bytes, sizeof bytes}, plan);
+}
+
+static void bad_split(void)
+{
+    const uint64_t split[5] = {AGREEMENT_BAD_SPLIT, 0, 1, 0, 2};
     split_test("no links", LIST(HEAD, 2, 0, CARD_END), split);
-    check_plan("the small site", card, plan, totals);
-    run("the small site", card, plan, two_servers, totals, 2);
 }
 
 /* As many servers as there can be: they are read, and a buffer of so many bytes is enough. */
@@ -328,7 +345,9 @@ int main(void)
     cards();
     plans(card);
     calls(card, plan);
-    small_site(card, plan);
+    small_site("the small site", card, plan);
+    twin_cables(plan);
+    bad_split();
     most_servers();
     return status;
 }

@@ -116,8 +116,8 @@ uint64_t agreement_version(void);
 /*
  * Reads a network card.
  * answer: 0, n, f, 0 and eight rows. Row u, the word answer[4 + u], is the set of servers that u
- * has a link to: server v is in it exactly if the card has a link from u to v. So it has servers of
- * the network only, u is not in it, and it is 0 where u is no server.
+ * has a link to: server v is in it exactly if the card has a link from u to v, given once or more
+ * often. So it has servers of the network only, u is not in it, and it is 0 where u is no server.
  * Or answer: 2, AGREEMENT_CARD, number, place and eight zeros.
  */
 void agreement_read_card(const uint8_t *card, size_t card_length, uint64_t answer[12]);

@@ -1,7 +1,9 @@
--- Twin cables: a link given again is one link. A card is said here by what stands on it, 01 n f, a list of links in any order and as often as one
+-- Twin cables: a link given again is one link. A card is said here by what stands on it: 01 n f, a list of links in any order and as often as one
 -- likes, and any bytes after them.
---     Again       <-> a link command given again, anywhere after the first, changes nothing; a fault behind it stands three bytes later
---     SetAlone    <-> what a whole card gives depends on n, f and the set of its links alone, neither on their order nor on how often each is given
+--     Again       <-> a link command given again, anywhere after the first and whatever follows it, changes nothing; a fault behind it stands three
+--                     bytes later
+--     SetAlone    <-> two whole cards with one n, f and set of links give the same, but for the place of a refusal
+--     SeenOnce    <-> split test, plan check and run tell two such cards that are read from each other in nothing
 use mathlib.Core.Path.{_≡_}
 use mathlib.Core.Bool.{cond}
 use mathlib.Core.List.{List, [], _∷_, _++_, List·Memᴰ}
@@ -11,6 +13,9 @@ use lib.Dec.{ltb}
 use Rattle.refusal.specs.Refused.{Refused, card, plan, call}
 use Rattle.network.specs.Links.{Links}
 use Rattle.network.specs.Card.{Network, network, refused, readCard}
+use Rattle.network.specs.Split.{splitTest}
+use Rattle.plan.specs.Check.{checkPlan}
+use Rattle.steps.specs.Run.{runPlan, lentAfter}
 
 -- from u to v
 abbrev pub Link : Type 0
@@ -25,33 +30,50 @@ linkBytes (x ∷ xs) = 2 ∷ x .0 ∷ x .1 ∷ linkBytes xs
 unfoldable pub cardBytes : (n f : ℕ) → List Link → List ℕ → List ℕ
 cardBytes n f xs rest = 1 ∷ n ∷ f ∷ (linkBytes xs ++ rest)
 
--- 03
-abbrev pub end : List ℕ
-end = 3 ∷ []
+-- the same with the end and nothing more
+abbrev pub wholeCard : (n f : ℕ) → List Link → List ℕ
+wholeCard n f xs = cardBytes n f xs (3 ∷ [])
 
 -- three bytes put in at k: places before k stay
 unfoldable pub behind : ℕ → ℕ → ℕ
 behind k place = cond (ltb place k) place (place + 3)
 
-abbrev pub movedRefusal : ℕ → Refused → Refused
-movedRefusal k (card number place) = card number (behind k place)
-movedRefusal k (plan number place) = plan number place
-movedRefusal k (call number) = call number
+-- a refusal with another place
+abbrev pub replaced : (ℕ → ℕ) → Refused → Refused
+replaced to (card number place) = card number (to place)
+replaced to (plan number place) = plan number (to place)
+replaced to (call number) = call number
 
-abbrev pub moved : ℕ → Network → Network
-moved k (network n f links) = network n f links
-moved k (refused r) = refused (movedRefusal k r)
+abbrev pub placed : (ℕ → ℕ) → Network → Network
+placed to (network n f links) = network n f links
+placed to (refused r) = refused (replaced to r)
+
+-- what is left of an answer where places do not count
+abbrev pub unplaced : Network → Network
+unplaced = placed (λ place. 0)
 
 -- each link of one list is in the other
 abbrev pub SameLinks : List Link → List Link → Type 0
 SameLinks xs ys = (x : Link) → (List·Memᴰ x xs → List·Memᴰ x ys) × (List·Memᴰ x ys → List·Memᴰ x xs)
 
+-- no call tells card s from card t
+pub record Alike (s t : List ℕ) : Type 0 where
+  pub split : splitTest s ≡ splitTest t
+  pub check : (plan : List ℕ) → checkPlan s plan ≡ checkPlan t plan
+  pub run : (plan inputs : List ℕ) (faulty : ℕ) (lent : List ℕ) → runPlan s plan inputs faulty lent ≡ runPlan t plan inputs faulty lent
+  pub bytes : (plan inputs : List ℕ) (faulty : ℕ) (table lent : List ℕ) → lentAfter s plan inputs faulty table lent ≡ lentAfter t plan inputs faulty table lent
+
 abbrev pub Again : Type 0
 Again =
     (n f : ℕ) (xs : List Link) (x : Link) (rest : List ℕ) → List·Memᴰ x xs → length (cardBytes n f (xs ++ x ∷ []) rest) ≤ 1024
-    → readCard (cardBytes n f (xs ++ x ∷ []) rest) ≡ moved (length (cardBytes n f xs [])) (readCard (cardBytes n f xs rest))
+    → readCard (cardBytes n f (xs ++ x ∷ []) rest) ≡ placed (behind (length (cardBytes n f xs []))) (readCard (cardBytes n f xs rest))
 
 abbrev pub SetAlone : Type 0
 SetAlone =
-    (n f : ℕ) (xs ys : List Link) (links : Links) → SameLinks xs ys → length (cardBytes n f ys end) ≤ 1024
-    → readCard (cardBytes n f xs end) ≡ network n f links → readCard (cardBytes n f ys end) ≡ network n f links
+    (n f : ℕ) (xs ys : List Link) → SameLinks xs ys → length (wholeCard n f xs) ≤ 1024 → length (wholeCard n f ys) ≤ 1024
+    → unplaced (readCard (wholeCard n f xs)) ≡ unplaced (readCard (wholeCard n f ys))
+
+abbrev pub SeenOnce : Type 0
+SeenOnce =
+    (n f : ℕ) (xs ys : List Link) → SameLinks xs ys → length (wholeCard n f ys) ≤ 1024
+    → (m g : ℕ) (links : Links) → readCard (wholeCard n f xs) ≡ network m g links → Alike (wholeCard n f xs) (wholeCard n f ys)

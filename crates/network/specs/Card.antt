@@ -37,13 +37,13 @@ headAt s at links =
     (cond (headFits (getD s (at + 1) 0) (getD s (at + 2) 0)) (more (at + 3) (getD s (at + 1) 0) (getD s (at + 2) 0) links)
     (turnedBack 5 at)))
 
--- 02 u v; a link given again is marked as it was
+-- 02 u v; a link given again is one link, as its mark is set already
 unfoldable pub linkAt : List ℕ → ℕ → ℕ → ℕ → Links → Step
 linkAt s at n f links =
     cond (ltb (length s) (at + 3)) (turnedBack 2 at)
     (cond (eqb at 0) (turnedBack 4 at)
-    (cond (linkFits n (getD s (at + 1) 0) (getD s (at + 2) 0)) (more (at + 3) n f (withLink links (getD s (at + 1) 0) (getD s (at + 2) 0)))
-    (turnedBack 5 at)))
+    (cond (not (linkFits n (getD s (at + 1) 0) (getD s (at + 2) 0))) (turnedBack 5 at)
+    (more (at + 3) n f (withLink links (getD s (at + 1) 0) (getD s (at + 2) 0)))))
 
 -- 03
 unfoldable pub endAt : List ℕ → ℕ → ℕ → ℕ → Links → Step

@@ -2,7 +2,7 @@
 //! there are.
 
 use compare::converted;
-use generate::{all_links, card_of, complete_card};
+use generate::{all_links, card_of, complete_card, MOST_LINKS};
 use reference::{Refusal, Split};
 
 const N: u8 = 8;
@@ -101,7 +101,7 @@ fn late_bad_split() -> Vec<u8> {
 
 /// The complete network with as many link commands as a card has room for.
 fn longest_card() -> Vec<u8> {
-    let links: Vec<(u8, u8)> = all_links(N).into_iter().cycle().take(340).collect();
+    let links: Vec<(u8, u8)> = all_links(N).into_iter().cycle().take(MOST_LINKS).collect();
     card_of(N, F, &links)
 }
 

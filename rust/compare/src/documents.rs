@@ -126,7 +126,7 @@ pub fn library_takes_the_blocks() {
 pub fn library_takes_the_lengths() {
     lengths::formula_is_right();
     lengths::too_few_sources_are_refused();
-    lengths::no_card_has_more_links();
+    lengths::no_link_is_left();
 }
 
 /// The steps that the checks go through decide as it does.

@@ -14,7 +14,7 @@ const PLAN_COMMANDS: [u8; 6] = [0x10, 0x11, 0x12, 0x13, 0x14, 0x15];
 /// The opening command takes this many bytes, and so does each link.
 pub(crate) const COMMAND_SIZE: usize = 3;
 /// The most bytes that a card may have.
-const CARD_LIMIT: usize = 1_024;
+pub(crate) const CARD_LIMIT: usize = 1_024;
 
 /// Makes one kind of card.
 type Maker = fn(&mut Rng) -> Vec<u8>;
@@ -144,7 +144,7 @@ pub(crate) fn sound_with_links(rng: &mut Rng) -> Vec<u8> {
 }
 
 /// How many link commands a sound card has.
-pub(crate) fn link_count(card: &[u8]) -> usize {
+fn link_count(card: &[u8]) -> usize {
     (card.len() - 1) / COMMAND_SIZE - 1
 }
 
@@ -160,11 +160,11 @@ fn place_after_opening(rng: &mut Rng, card: &[u8]) -> usize {
 }
 
 /// The place of a random link of a sound card that has links.
-fn place_of_link(rng: &mut Rng, card: &[u8]) -> usize {
+pub(crate) fn place_of_link(rng: &mut Rng, card: &[u8]) -> usize {
     COMMAND_SIZE * (1 + rng.below(link_count(card)))
 }
 
-fn insert(card: &mut Vec<u8>, place: usize, bytes: &[u8]) {
+pub(crate) fn insert(card: &mut Vec<u8>, place: usize, bytes: &[u8]) {
     card.splice(place..place, bytes.iter().copied());
 }
 
@@ -371,7 +371,7 @@ fn near_the_limit(rng: &mut Rng) -> Vec<u8> {
     card
 }
 
-/// Goes on with links given before until the card has exactly `length` bytes.
+/// Gives links of the card again until it has exactly `length` bytes.
 fn repeat_links(rng: &mut Rng, card: &mut Vec<u8>, length: usize) {
     let links = link_count(card);
     card.pop();

@@ -25,4 +25,4 @@ pub use damage::{damaged_plan, Damage, DAMAGES};
 pub use draft::places;
 pub use plans::{broken_off_plan, plan, plan_like_bytes};
 pub use rng::Rng;
-pub use twins::with_twins;
+pub use twins::{with_twins, MOST_LINKS};

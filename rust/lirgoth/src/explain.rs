@@ -70,18 +70,18 @@ pub fn explain(site: &Site) -> Result<Answer, Unreadable> {
     }
 }
 
-/// `5 offices, at most 1 may fail, 15 links`, and where the card gives links again how
-/// many it gives: ` (17 cables)`.
+/// `5 offices, at most 1 may fail, 15 links`, and how often the card gives one of these
+/// again: ` (3 given again)`.
 fn size(network: &Network, card: &[u8]) -> String {
-    let links = network.rows.iter().map(|row| row.len()).sum();
+    let links: usize = network.rows.iter().map(|row| row.len()).sum();
     // Head and links have three bytes each, the end has one.
     let given = card.len() / 3 - 1;
-    let cables = match given == links {
-        true => String::new(),
-        false => format!(" ({})", counted(given, "cable")),
+    let again = match given - links {
+        0 => String::new(),
+        again => format!(" ({again} given again)"),
     };
     format!(
-        "{} offices, {}, {}{cables}",
+        "{} offices, {}, {}{again}",
         network.n,
         at_most(network.f),
         counted(links, "link")

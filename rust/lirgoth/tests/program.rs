@@ -99,7 +99,7 @@ fn out(args: &[&str], status: i32) -> String {
 }
 
 #[test]
-fn twin_cables_are_one_link_and_are_counted() {
+fn twin_cables_are_one_link_and_are_told() {
     let site = copy_of("dry-bulk");
     let card = fs::read(site.path("network.card")).expect("it was written");
     let before = out(&["chart", &site.shown("")], ANSWERED);
@@ -107,7 +107,7 @@ fn twin_cables_are_one_link_and_are_counted() {
     let twins = [&card[..9], &card[3..9], &card[3..6], &card[9..]].concat();
     fs::write(site.path("network.card"), &twins).expect("it can be written");
     let explained = out(&["explain", &site.shown("")], UNUSABLE);
-    let size = "5 offices, at most 1 may fail, 15 links (18 cables)\n";
+    let size = "5 offices, at most 1 may fail, 15 links (3 given again)\n";
     let rest = "no bad split: the offices can agree, whichever one of them fails\n\
                 plan accepted: 50 blocks and 464 carriages\n";
     assert_eq!(explained, format!("{size}{rest}"));

@@ -1,6 +1,5 @@
 //! The cards on which library and reference are compared.
 
-use super::answers::Answers;
 use super::tally::Tally;
 use crate::repeated;
 use generate::{
@@ -66,9 +65,8 @@ pub fn twin_cables(seeds: Range<u64>) -> Tally {
             let card = network_card(&mut rng, n, f);
             let twins = with_twins(&mut rng, &card);
             let made_by = format_args!("twin_cables, n {n} f {f} seed {seed}");
-            tally.compare(&twins, made_by);
-            let (alone, twice) = (Answers::of_library(&card), Answers::of_library(&twins));
-            assert_eq!(alone, twice, "{made_by}");
+            let alone = tally.compare(&card, made_by);
+            assert_eq!(tally.compare(&twins, made_by), alone, "{made_by}");
         }
     }
     tally

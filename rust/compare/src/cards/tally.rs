@@ -25,10 +25,11 @@ impl Tally {
         self.accepted() + self.refused.iter().sum::<usize>()
     }
 
-    /// Asks the library and the reference about `card` and counts the answer.
+    /// Asks the library and the reference about `card`, counts the answers and hands them
+    /// back.
     ///
     /// Panics if they differ; `made_by` then says how to get the card again.
-    pub(super) fn compare(&mut self, card: &[u8], made_by: Arguments) {
+    pub(super) fn compare(&mut self, card: &[u8], made_by: Arguments) -> Answers {
         let library = Answers::of_library(card);
         let reference = Answers::of_reference(card);
         if library != reference {
@@ -39,6 +40,7 @@ impl Tally {
             );
         }
         self.count(&reference);
+        reference
     }
 
     fn count(&mut self, answers: &Answers) {

@@ -59,20 +59,13 @@ fn size(extreme: &Extreme) -> String {
 
 /// How often a link can be given before the card is too long.
 fn most_links() -> usize {
-    let with = |links| {
-        read_card(&card_of(
-            SIZES.n.most(),
-            SIZES.f.most(),
-            &vec![(0, 1); links],
-        ))
-    };
-    (0..)
-        .find(|&links| with(links + 1).is_err())
-        .expect("cards have a limit")
+    let (n, f) = (SIZES.n.most(), SIZES.f.most());
+    let is_refused = |&links: &usize| read_card(&card_of(n, f, &vec![(0, 1); links])).is_err();
+    (0..).find(is_refused).expect("cards have a limit") - 1
 }
 
-/// All links there can be, given once, are read as all links; no other can be added.
-pub fn no_card_has_more_links() {
+/// Beside all links there can be, every further one is given again or out of range.
+pub fn no_link_is_left() {
     let (n, f) = (SIZES.n.most(), SIZES.f.most());
     let card = complete_card(n, f);
     let network = read_card(&card).expect("all links are accepted");

@@ -96,7 +96,7 @@ pub fn random_calls(n: u8, f: u8, seeds: Range<u64>, times: usize) -> Tally {
             };
             let made_by =
                 format_args!("random_calls, n {n} f {f} seed {seed}, call {number}, {kind} table");
-            let _ = tally.compare(&call, made_by);
+            tally.compare(&call, made_by);
         }
     }
     tally
@@ -144,7 +144,7 @@ pub fn every_faulty_set(n: u8, f: u8, seeds: Range<u64>, times: usize) -> Tally 
                 let (table, kind) = planned.any_table(&mut rng, &inputs);
                 let made_by =
                     format_args!("every_faulty_set, n {n} f {f} seed {seed}, {kind} table");
-                let _ = tally.compare(&planned.call(&inputs, faulty, &table), made_by);
+                tally.compare(&planned.call(&inputs, faulty, &table), made_by);
             }
         }
     }
@@ -177,7 +177,7 @@ pub fn every_input(n: u8, f: u8, seeds: Range<u64>) -> Tally {
                 for (number, table) in tables.enumerate() {
                     let made_by =
                         format_args!("every_input, n {n} f {f} seed {seed}, table {number}");
-                    let _ = tally.compare(&planned.call(&inputs, faulty, table), made_by);
+                    tally.compare(&planned.call(&inputs, faulty, table), made_by);
                 }
             }
         }
@@ -204,16 +204,16 @@ pub fn every_table(n: u8, f: u8, seeds: Range<u64>) -> Tally {
             let mut table: Vec<u8> = (0..count + 6).map(|_| rng.below(2) as u8).collect();
             for length in 0..=table.len() {
                 let made_by = format_args!("every_table, n {n} f {f} seed {seed}, cut at {length}");
-                let _ = tally.compare(&planned.call(&inputs, faulty, &table[..length]), made_by);
+                tally.compare(&planned.call(&inputs, faulty, &table[..length]), made_by);
             }
             for byte in 0..=u8::MAX {
                 let made_by = format_args!("every_table, n {n} f {f} seed {seed}, all {byte}");
                 let all = vec![byte; count];
-                let _ = tally.compare(&planned.call(&inputs, faulty, &all), made_by);
+                tally.compare(&planned.call(&inputs, faulty, &all), made_by);
             }
             let long = repeated(&[], &table, 2 * PLAN_LIMIT + 1);
             let made_by = format_args!("every_table, n {n} f {f} seed {seed}, long");
-            let _ = tally.compare(&planned.call(&inputs, faulty, &long), made_by);
+            tally.compare(&planned.call(&inputs, faulty, &long), made_by);
             let in_hand = |carriage: &Carriage| carriage.senders & faulty != 0;
             for place in (0..count).filter(|&place| in_hand(&planned.carriages[place])) {
                 let old = table[place];
@@ -221,7 +221,7 @@ pub fn every_table(n: u8, f: u8, seeds: Range<u64>) -> Tally {
                     table[place] = byte;
                     let made_by =
                         format_args!("every_table, n {n} f {f} seed {seed}, {byte} at {place}");
-                    let _ = tally.compare(&planned.call(&inputs, faulty, &table), made_by);
+                    tally.compare(&planned.call(&inputs, faulty, &table), made_by);
                 }
                 table[place] = old;
             }
@@ -249,7 +249,7 @@ pub fn late_tables(times: usize) -> Tally {
         let silent = table.len().min(FAR);
         table[..silent].fill(2);
         let made_by = format_args!("late_tables, seed {seed}, {kind} table");
-        let _ = tally.compare(&planned.call(&inputs, last_two, &table), made_by);
+        tally.compare(&planned.call(&inputs, last_two, &table), made_by);
     }
     tally
 }
@@ -323,7 +323,7 @@ pub fn wrong_calls(n: u8, f: u8) -> Tally {
                     lent,
                     ..planned.call(inputs, faulty, &table)
                 };
-                let _ = tally.compare(&call, format_args!("wrong_calls, n {n} f {f}"));
+                tally.compare(&call, format_args!("wrong_calls, n {n} f {f}"));
             }
         }
     }
@@ -333,14 +333,14 @@ pub fn wrong_calls(n: u8, f: u8) -> Tally {
             let mut inputs = any_bits(&mut rng, n);
             inputs[place] = byte;
             let call = planned.call(&inputs, 0, &table);
-            let _ = tally.compare(&call, format_args!("wrong_calls, n {n} f {f}, any byte"));
+            tally.compare(&call, format_args!("wrong_calls, n {n} f {f}, any byte"));
         }
         let inputs = any_bits(&mut rng, n);
         let call = Call {
             lent: usize::from(byte),
             ..planned.call(&inputs, 0, &table)
         };
-        let _ = tally.compare(&call, format_args!("wrong_calls, n {n} f {f}, any length"));
+        tally.compare(&call, format_args!("wrong_calls, n {n} f {f}, any length"));
     }
     tally
 }
@@ -377,7 +377,7 @@ pub fn refused_plans(seeds: Range<u64>, times: usize) -> Tally {
                 lent: lent(&mut rng, n),
             };
             let made_by = format_args!("refused_plans, seed {seed}, call {number}, {kind} table");
-            let _ = tally.compare(&call, made_by);
+            tally.compare(&call, made_by);
         }
     }
     tally
