@@ -62,41 +62,52 @@ module _ (s t : List ℕ) (at : ℕ) (e : drop at s ≡ t) where
   past : drop (at + 3) s ≡ drop 3 t
   past = sym (drop-drop 3 at s) ∙ ap (drop 3) e
 
+module _ {s : List ℕ} {at n f : ℕ} {links : Links} (r : At s at n f links) (z : 0 < at) where
+  -- the reader ends here
+  turns : (number place : ℕ) → stepAt s at n f links ≡ turnedBack number place → readCard s ≡ refused (card number place)
+  turns number place q = sym (reading-answer r (refused (card number place)) q)
+
+  -- a link, and what follows it
+  links-on : (u v : ℕ) → getD s at 0 ≡ 2 → getD s (at + 1) 0 ≡ u → getD s (at + 2) 0 ≡ v → 3 ≤ length s - at → linkFits n u v ≡ true → At s (at + 3) n f (withLink links u v)
+  unfolding withLink
+  links-on u v two is-u is-v room fits =
+      reading-goes r (at + 3) n f (withLink links u v)
+      (rw (is-u, is-v) at (link-goes s at n f links (omega arith) two room (omega arith) (rw (is-u, is-v) fits))) (omega arith) (omega arith)
+
+  links-out : (u v : ℕ) → getD s at 0 ≡ 2 → getD s (at + 1) 0 ≡ u → getD s (at + 2) 0 ≡ v → 3 ≤ length s - at → linkFits n u v ≡ false → readCard s ≡ refused (card 5 at)
+  links-out u v two is-u is-v room fits = turns 5 at (link-range s at n f links (omega arith) two room (omega arith) (rw (is-u, is-v) fits))
+
 pub front-is : (t s : List ℕ) (at n f : ℕ) (links : Links) → At s at n f links → 0 < at → drop at s ≡ t → readCard s ≡ front t at n f links
-unfolding front withLink
-front-is [] s at n f links r z e =
-    let l = left s [] at e in
-    sym (reading-answer r (refused (card 2 at)) (step-none s at n f links (omega arith)))
+unfolding front
+front-is [] s at n f links r z e = let l = left s [] at e in turns r z 2 at (step-none s at n f links (omega arith))
 front-is (c ∷ []) s at n f links r z e =
     let l = left s (c ∷ []) at e in
     let b = first s (c ∷ []) at e in
     cases (eqb c 3)
     (λ q. rw q (sym (reading-answer r (network n f links) (end-read s at n f links (omega arith) (b ∙ eqb-true c 3 q) z (omega arith)))))
-    (λ q. rw q (sym (reading-answer r (refused (card 2 at)) (cut s at n f links (omega arith) (omega arith) (λ w. eqb-false c 3 q (sym b ∙ w))))))
+    (λ q. rw q (turns r z 2 at (cut s at n f links (omega arith) (omega arith) (λ w. eqb-false c 3 q (sym b ∙ w)))))
 front-is (c ∷ u ∷ []) s at n f links r z e =
     let l = left s (c ∷ u ∷ []) at e in
     let b = first s (c ∷ u ∷ []) at e in
     cases (eqb c 3)
-    (λ q. rw q (sym (reading-answer r (refused (card 3 (at + 1))) (end-trailing s at n f links (omega arith) (b ∙ eqb-true c 3 q) z (omega arith)))))
-    (λ q. rw q (sym (reading-answer r (refused (card 2 at)) (cut s at n f links (omega arith) (omega arith) (λ w. eqb-false c 3 q (sym b ∙ w))))))
+    (λ q. rw q (turns r z 3 (at + 1) (end-trailing s at n f links (omega arith) (b ∙ eqb-true c 3 q) z (omega arith))))
+    (λ q. rw q (turns r z 2 at (cut s at n f links (omega arith) (omega arith) (λ w. eqb-false c 3 q (sym b ∙ w)))))
 front-is (c ∷ u ∷ v ∷ t) s at n f links r z e =
     let l = left s (c ∷ u ∷ v ∷ t) at e in
     let b = first s (c ∷ u ∷ v ∷ t) at e in
-    let on : (links′ : Links) → At s (at + 3) n f links′ → readCard s ≡ front t (at + 3) n f links′ = λ links′ r′. front-is t s (at + 3) n f links′ r′ (omega arith) (past s (c ∷ u ∷ v ∷ t) at e) in
-    go on (omega arith) (omega arith) b (byte s (c ∷ u ∷ v ∷ t) at e 1) (byte s (c ∷ u ∷ v ∷ t) at e 2)
-  where
-    go : ((links′ : Links) → At s (at + 3) n f links′ → readCard s ≡ front t (at + 3) n f links′) → at < length s → 3 ≤ length s - at
-        → getD s at 0 ≡ c → getD s (at + 1) 0 ≡ u → getD s (at + 2) 0 ≡ v → readCard s ≡ front (c ∷ u ∷ v ∷ t) at n f links
-    go on h k b b′ b″ =
-        cases (eqb c 3)
-        (λ q. rw q (sym (reading-answer r (refused (card 3 (at + 1))) (end-trailing s at n f links h (b ∙ eqb-true c 3 q) z (omega arith)))))
-        λ q. cases (eqb c 1)
-        (λ w. rw (q, w) (sym (reading-answer r (refused (card 4 at)) (head-again s at n f links h (b ∙ eqb-true c 1 w) k z))))
-        λ w. cases (eqb c 2)
-        (λ x. cases (linkFits n u v)
-        (λ y. rw (q, w, x, y) (on (withLink links u v) (reading-goes r (at + 3) n f (withLink links u v) (rw (b′, b″) at (link-goes s at n f links h (b ∙ eqb-true c 2 x) k (omega arith) (rw (b′, b″) y))) (omega arith) (omega arith))))
-        (λ y. rw (q, w, x, y) (sym (reading-answer r (refused (card 5 at)) (link-range s at n f links h (b ∙ eqb-true c 2 x) k (omega arith) (rw (b′, b″) y))))))
-        λ x. rw (q, w, x) (sym (reading-answer r (refused (card 2 at)) (step-unknown s at n f links h (λ o. eqb-false c 3 q (sym b ∙ o)) (λ o. eqb-false c 1 w (sym b ∙ o)) (λ o. eqb-false c 2 x (sym b ∙ o)))))
+    let b′ = byte s (c ∷ u ∷ v ∷ t) at e 1 in
+    let b″ = byte s (c ∷ u ∷ v ∷ t) at e 2 in
+    let h : at < length s = omega arith in
+    let k : 3 ≤ length s - at = omega arith in
+    cases (eqb c 3)
+    (λ q. rw q (turns r z 3 (at + 1) (end-trailing s at n f links h (b ∙ eqb-true c 3 q) z (omega arith))))
+    λ q. cases (eqb c 1)
+    (λ w. rw (q, w) (turns r z 4 at (head-again s at n f links h (b ∙ eqb-true c 1 w) k z)))
+    λ w. cases (eqb c 2)
+    (λ x. let two = b ∙ eqb-true c 2 x in cases (linkFits n u v)
+    (λ y. rw (q, w, x, y) (front-is t s (at + 3) n f (withLink links u v) (links-on r z u v two b′ b″ k y) (omega arith) (past s (c ∷ u ∷ v ∷ t) at e)))
+    (λ y. rw (q, w, x, y) (links-out r z u v two b′ b″ k y)))
+    λ x. rw (q, w, x) (turns r z 2 at (step-unknown s at n f links h (λ o. eqb-false c 3 q (sym b ∙ o)) (λ o. eqb-false c 1 w (sym b ∙ o)) (λ o. eqb-false c 2 x (sym b ∙ o))))
 
 -- a card from its head on
 module _ (n f : ℕ) (t : List ℕ) (h : length (1 ∷ n ∷ f ∷ t) ≤ 1024) where
