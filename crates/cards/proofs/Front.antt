@@ -17,7 +17,7 @@ use Rattle.refusal.specs.Refused.{card}
 use Rattle.network.specs.Links.{Links, noLinks, withLink}
 use Rattle.network.specs.Card.{Network, network, refused, headFits, linkFits, turnedBack, stepAt, readCard}
 use Rattle.network.specs.Places.{At}
-use Rattle.network.proofs.Reading.{reading-starts, reading-answer, reading-goes, step-none, step-unknown, end-trailing, end-read, head-cut, head-again, head-goes, head-range, link-cut, link-range, link-goes}
+use Rattle.network.proofs.Reading.{reading-starts, reading-answer, reading-goes, step-none, step-unknown, step-rest, whole-short, end-trailing, end-read, head-cut, head-again, head-goes, head-range, link-range, link-goes}
 
 unfoldable pub front : List ℕ → (at n f : ℕ) → Links → Network
 front [] at n f links = refused (card 2 at)
@@ -44,9 +44,7 @@ cut : (s : List ℕ) (at n f : ℕ) (links : Links) → at < length s → length
 cut s at n f links h k x =
     cases (eqb (getD s at 0) 1)
     (λ e. head-cut s at n f links h (eqb-true (getD s at 0) 1 e) k)
-    λ e. cases (eqb (getD s at 0) 2)
-    (λ q. link-cut s at n f links h (eqb-true (getD s at 0) 2 q) k)
-    (λ q. step-unknown s at n f links h x (eqb-false (getD s at 0) 1 e) (eqb-false (getD s at 0) 2 q))
+    (λ e. step-rest s at n f links h (sym (whole-short s at k)) x (eqb-false (getD s at 0) 1 e))
 
 -- the bytes from `at` on, one by one
 module _ (s t : List ℕ) (at : ℕ) (e : drop at s ≡ t) where

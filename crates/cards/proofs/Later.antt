@@ -9,7 +9,7 @@ use Rattle.facts.proofs.Bools.{cases}
 use Rattle.refusal.specs.Refused.{card}
 use Rattle.network.specs.Links.{Links, withLink}
 use Rattle.network.specs.Card.{refused, linkFits}
-use Rattle.cards.specs.Twins.{behind, placed}
+use Rattle.cards.specs.Twins.{behind, moved}
 use Rattle.cards.proofs.Front.{front}
 
 -- places before the three bytes, and from them on
@@ -21,10 +21,10 @@ after-moves : (k place to : ℕ) → k ≤ place → to ≡ place + 3 → to ≡
 unfolding behind
 after-moves k place to h e = rw e (sym (simp (le-ltb place k h)))
 
-turned : (k number place to : ℕ) → k ≤ place → to ≡ place + 3 → refused (card number to) ≡ placed (behind k) (refused (card number place))
+turned : (k number place to : ℕ) → k ≤ place → to ≡ place + 3 → refused (card number to) ≡ moved (behind k) (refused (card number place))
 turned k number place to h e = ap (λ (p : ℕ). refused (card number p)) (after-moves k place to h e)
 
-pub front-later : (t : List ℕ) (at n f : ℕ) (links : Links) (k : ℕ) → k ≤ at → front t (at + 3) n f links ≡ placed (behind k) (front t at n f links)
+pub front-later : (t : List ℕ) (at n f : ℕ) (links : Links) (k : ℕ) → k ≤ at → front t (at + 3) n f links ≡ moved (behind k) (front t at n f links)
 unfolding front
 front-later [] at n f links k h = turned k 2 at (at + 3) h refl
 front-later (c ∷ []) at n f links k h =

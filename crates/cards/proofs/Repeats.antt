@@ -9,8 +9,8 @@ use lib.ListN.{length, length-append}
 use Rattle.facts.proofs.Bools.{cases}
 use Rattle.refusal.specs.Refused.{card}
 use Rattle.network.specs.Links.{Links, noLinks, withLink}
-use Rattle.network.specs.Card.{Network, refused, headFits, linkFits, readCard}
-use Rattle.cards.specs.Twins.{Link, linkBytes, cardBytes, behind, placed}
+use Rattle.network.specs.Card.{Network, refused, headFits, linkFits}
+use Rattle.cards.specs.Twins.{Link, linkBytes, cardBytes, behind, moved, Again}
 use Rattle.cards.proofs.Marking.{with-twice, with-swap}
 use Rattle.cards.proofs.Front.{front, front-fits, front-range, card-fits, card-range}
 use Rattle.cards.proofs.Later.{before-stays, front-later}
@@ -31,12 +31,12 @@ due-on n links x y ys fits (inr r) =
     inr (r .0, with-swap links (y .0) (y .1) (x .0) (x .1) ∙ ap (λ (l : Links). withLink l (y .0) (y .1)) (r .1))
 
 -- a refusal before the three bytes keeps its place
-kept : (k place : ℕ) (a b : Network) → place < k → a ≡ refused (card 5 place) → b ≡ refused (card 5 place) → a ≡ placed (behind k) b
-kept k place a b h p q = p ∙ ap (λ (at : ℕ). refused (card 5 at)) (sym (before-stays k place h)) ∙ ap (placed (behind k)) (sym q)
+kept : (k place : ℕ) (a b : Network) → place < k → a ≡ refused (card 5 place) → b ≡ refused (card 5 place) → a ≡ moved (behind k) b
+kept k place a b h p q = p ∙ ap (λ (at : ℕ). refused (card 5 at)) (sym (before-stays k place h)) ∙ ap (moved (behind k)) (sym q)
 
 module _ (x : Link) (rest : List ℕ) (n f k : ℕ) where
   front-again : (xs : List Link) (at : ℕ) (links : Links) → k ≡ at + length (linkBytes xs) → Due n links x xs
-      → front (linkBytes (xs ++ x ∷ []) ++ rest) at n f links ≡ placed (behind k) (front (linkBytes xs ++ rest) at n f links)
+      → front (linkBytes (xs ++ x ∷ []) ++ rest) at n f links ≡ moved (behind k) (front (linkBytes xs ++ rest) at n f links)
   unfolding linkBytes
   front-again [] at links e (inl m) = elim m [ ]
   front-again [] at links e (inr r) =
@@ -47,7 +47,7 @@ module _ (x : Link) (rest : List ℕ) (n f k : ℕ) where
       cases (linkFits n (y .0) (y .1))
       (λ q. front-fits (y .0) (y .1) more at n f links q
       ∙ front-again ys (at + 3) (withLink links (y .0) (y .1)) (omega arith) (due-on n links x y ys q due)
-      ∙ ap (placed (behind k)) (sym (front-fits (y .0) (y .1) less at n f links q)))
+      ∙ ap (moved (behind k)) (sym (front-fits (y .0) (y .1) less at n f links q)))
       (λ q. kept k at _ _ (omega arith) (front-range (y .0) (y .1) more at n f links q) (front-range (y .0) (y .1) less at n f links q))
 
 bytes-more : (xs : List Link) (x : Link) → length (linkBytes (xs ++ x ∷ [])) ≡ length (linkBytes xs) + 3
@@ -55,22 +55,24 @@ unfolding linkBytes
 bytes-more [] x = refl
 bytes-more (y ∷ ys) x = let ih = bytes-more ys x in omega arith
 
-module _ (n f : ℕ) (xs : List Link) (x : Link) (rest : List ℕ) (m : List·Memᴰ x xs) (h : length (cardBytes n f (xs ++ x ∷ []) rest) ≤ 1024) where
-  lengths : (length (cardBytes n f xs []) ≡ 3 + length (linkBytes xs)) × (length (cardBytes n f xs rest) ≤ 1024)
-  unfolding cardBytes
-  lengths =
-      let a = bytes-more xs x in
-      let b = length-append (linkBytes (xs ++ x ∷ [])) rest in
-      let c = length-append (linkBytes xs) rest in
-      let d = length-append (linkBytes xs) [] in
-      (omega arith, omega arith)
+-- how long the two cards are
+lengths : (n f : ℕ) (xs : List Link) (x : Link) (rest : List ℕ) → length (cardBytes n f (xs ++ x ∷ []) rest) ≤ 1024
+    → (length (cardBytes n f xs []) ≡ 3 + length (linkBytes xs)) × (length (cardBytes n f xs rest) ≤ 1024)
+unfolding cardBytes
+lengths n f xs x rest h =
+    let a = bytes-more xs x in
+    let b = length-append (linkBytes (xs ++ x ∷ [])) rest in
+    let c = length-append (linkBytes xs) rest in
+    let d = length-append (linkBytes xs) [] in
+    (omega arith, omega arith)
 
-  pub card-again : readCard (cardBytes n f (xs ++ x ∷ []) rest) ≡ placed (behind (length (cardBytes n f xs []))) (readCard (cardBytes n f xs rest))
-  unfolding cardBytes
-  card-again =
-      let k = length (cardBytes n f xs []) in
-      let more = linkBytes (xs ++ x ∷ []) ++ rest in
-      let less = linkBytes xs ++ rest in
-      cases (headFits n f)
-      (λ q. card-fits n f more h q ∙ front-again x rest n f k xs 3 noLinks (lengths .0) (inl m) ∙ ap (placed (behind k)) (sym (card-fits n f less (lengths .1) q)))
-      (λ q. kept k 0 _ _ (omega arith) (card-range n f more h q) (card-range n f less (lengths .1) q))
+pub card-again : Again
+unfolding cardBytes
+card-again n f xs x rest m h =
+    let k = length (cardBytes n f xs []) in
+    let more = linkBytes (xs ++ x ∷ []) ++ rest in
+    let less = linkBytes xs ++ rest in
+    let l = lengths n f xs x rest h in
+    cases (headFits n f)
+    (λ q. card-fits n f more h q ∙ front-again x rest n f k xs 3 noLinks (l .0) (inl m) ∙ ap (moved (behind k)) (sym (card-fits n f less (l .1) q)))
+    (λ q. kept k 0 _ _ (omega arith) (card-range n f more h q) (card-range n f less (l .1) q))

@@ -10,7 +10,7 @@ use Rattle.facts.proofs.Bools.{cases, clash, and-left, and-right, both, same}
 use Rattle.refusal.specs.Refused.{card}
 use Rattle.network.specs.Links.{Links, noLinks, withLink}
 use Rattle.network.specs.Card.{Network, network, refused, headFits, linkFits, readCard}
-use Rattle.cards.specs.Twins.{Link, linkBytes, cardBytes, wholeCard, unplaced, SameLinks}
+use Rattle.cards.specs.Twins.{Link, linkBytes, cardBytes, wholeCard, unplaced, SameLinks, SetAlone}
 use Rattle.cards.proofs.Marking.{marksOf, marked-same}
 use Rattle.cards.proofs.Front.{front, front-fits, front-range, card-fits, card-range}
 
@@ -72,6 +72,5 @@ given-same : (n f : ℕ) (xs ys : List Link) → SameLinks xs ys → given n f x
 unfolding given
 given-same n f xs ys s = rw (fit-same n xs ys s, marked-same xs ys noLinks s) refl
 
-pub whole-same : (n f : ℕ) (xs ys : List Link) → SameLinks xs ys → length (wholeCard n f xs) ≤ 1024 → length (wholeCard n f ys) ≤ 1024
-    → unplaced (readCard (wholeCard n f xs)) ≡ unplaced (readCard (wholeCard n f ys))
+pub whole-same : SetAlone
 whole-same n f xs ys s h k = whole-gives n f xs h ∙ given-same n f xs ys s ∙ sym (whole-gives n f ys k)

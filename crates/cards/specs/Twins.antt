@@ -3,7 +3,7 @@
 --     Again       <-> a link command given again, anywhere after the first and whatever follows it, changes nothing; a fault behind it stands three
 --                     bytes later
 --     SetAlone    <-> two whole cards with one n, f and set of links give the same, but for the place of a refusal
---     SeenOnce    <-> split test, plan check and run tell two such cards that are read from each other in nothing
+--     SeenOnce    <-> split test, plan check and run give the same for two such cards that are read
 use mathlib.Core.Path.{_≡_}
 use mathlib.Core.Bool.{cond}
 use mathlib.Core.List.{List, [], _∷_, _++_, List·Memᴰ}
@@ -38,19 +38,19 @@ wholeCard n f xs = cardBytes n f xs (3 ∷ [])
 unfoldable pub behind : ℕ → ℕ → ℕ
 behind k place = cond (ltb place k) place (place + 3)
 
--- a refusal with another place
-abbrev pub replaced : (ℕ → ℕ) → Refused → Refused
-replaced to (card number place) = card number (to place)
-replaced to (plan number place) = plan number (to place)
-replaced to (call number) = call number
+-- an answer with its place, if it has one, moved to another
+abbrev pub movedRefusal : (ℕ → ℕ) → Refused → Refused
+movedRefusal to (card number place) = card number (to place)
+movedRefusal to (plan number place) = plan number (to place)
+movedRefusal to (call number) = call number
 
-abbrev pub placed : (ℕ → ℕ) → Network → Network
-placed to (network n f links) = network n f links
-placed to (refused r) = refused (replaced to r)
+abbrev pub moved : (ℕ → ℕ) → Network → Network
+moved to (network n f links) = network n f links
+moved to (refused r) = refused (movedRefusal to r)
 
 -- what is left of an answer where places do not count
 abbrev pub unplaced : Network → Network
-unplaced = placed (λ place. 0)
+unplaced = moved (λ place. 0)
 
 -- each link of one list is in the other
 abbrev pub SameLinks : List Link → List Link → Type 0
@@ -66,7 +66,7 @@ pub record Alike (s t : List ℕ) : Type 0 where
 abbrev pub Again : Type 0
 Again =
     (n f : ℕ) (xs : List Link) (x : Link) (rest : List ℕ) → List·Memᴰ x xs → length (cardBytes n f (xs ++ x ∷ []) rest) ≤ 1024
-    → readCard (cardBytes n f (xs ++ x ∷ []) rest) ≡ placed (behind (length (cardBytes n f xs []))) (readCard (cardBytes n f xs rest))
+    → readCard (cardBytes n f (xs ++ x ∷ []) rest) ≡ moved (behind (length (cardBytes n f xs []))) (readCard (cardBytes n f xs rest))
 
 abbrev pub SetAlone : Type 0
 SetAlone =

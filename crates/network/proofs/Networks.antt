@@ -100,7 +100,7 @@ module _ (s : List ℕ) (ok : Accepted s) (n′ f′ : ℕ) (links′ : Links) (
           (proper-link n f links p (getD s (at + 1) 0) (getD s (at + 2) 0) (w .fits))
       go on (inr (inr w)) = same-network (reading-answer r (network n f links) (w .step) ∙ is) p
 
-network-accepted : (s : List ℕ) (n f : ℕ) (links : Links) → readCard s ≡ network n f links → Accepted s
+pub network-accepted : (s : List ℕ) (n f : ℕ) (links : Links) → readCard s ≡ network n f links → Accepted s
 network-accepted s n f links is r e = clashing (readCard s) is e
   where
     clashing : (a : Network) → a ≡ network n f links → a ≡ refused r → ⊥
