@@ -38,8 +38,8 @@ A chart is plain text:
   1 <-> 2                 links both ways
   Geneva -> Oslo, Lima    names and lists of receivers work too
 
-A link given again, as for twin cables, is one link, and the card has it once. Each mistake is
-named by its line.
+A link given again, as for twin cables, is one link, and the card has it once. Each
+mistake is named by its line.
 ";
 
 pub const CHART: &str = "\
