@@ -3,6 +3,7 @@
 --     laid             four words and eight rows, laid entry by entry
 --     card-read        an accepted card: the reader's n, f and links are its network
 --     card-refused     a refused card
+--     print-words      a card printed back
 --     run-words        a run
 -- Assumes nothing.
 use mathlib.Core.Path.{_≡_, refl, sym, ap, ap₂, _∙_}
@@ -18,13 +19,14 @@ use Rattle.network.specs.Links.{Links, noLinks, linkedIn}
 use Rattle.network.specs.Rows.{rowsOf}
 use Rattle.network.specs.Split.{Split, unread}
 use Rattle.network.specs.declared.card.Reading.{Reading}
-use Rattle.network.specs.Answers.{readingOf, Answered}
+use Rattle.network.specs.declared.print.Printed.{Printed}
+use Rattle.network.specs.Answers.{readingOf, Answered, printedOf, Printing}
 use Rattle.network.proofs.Heads.{refused-of}
 use Rattle.network.proofs.LinkRows.{rows-none}
 use Rattle.run.specs.declared.call.Ran.{Ran}
 use Rattle.run.specs.Answers.{ranOf}
 use Rattle.run.specs.Answers as Run
-use Rattle.agreement.specs.Words.{refusedWords, cardWords, splitWords, planWords, RunWords}
+use Rattle.agreement.specs.Words.{refusedWords, cardWords, printWords, PrintWords, splitWords, planWords, RunWords}
 
 module _ (r : Refused) (w m p : ℕ) (a : w ≡ whoseOf r) (b : m ≡ numberOf r) (c : p ≡ placeOf r) where
   pub split-refused : (s : Split) → s ≡ unread r → 2 ∷ w ∷ m ∷ p ∷ 0 ∷ [] ≡ splitWords s
@@ -53,6 +55,9 @@ module _ (s : List ℕ) (lent links : Links) (reading : Reading) (a : Answered s
   pub card-refused : (r : Refusal) → reading ≡ Reading.Refused r → (front : List ℕ) → front ≡ refusedWords (refusalOf r)
       → words ≡ front ++ rowsOf (linkedIn noLinks) → words ≡ cardWords (readCard s)
   card-refused r e front h w = w ∙ rw (h, rows-none, refused-of (readCard s) (refusalOf r) (sym (a .reading) ∙ ap readingOf e)) refl
+
+pub print-words : (card lent : List ℕ) (r : Printed) (after words : List ℕ) → Printing card lent r after → words ≡ printWords (printedOf r) → PrintWords card lent after words
+print-words card lent r after words a w = record { answer = w ∙ ap printWords (a .answer); bytes = a .bytes }
 
 pub run-words : (card plan inputs : List ℕ) (X : ℕ) (table lent : List ℕ) (r : Ran) (after words : List ℕ) → Run.Answered card plan inputs X table lent r after
     → words ≡ planWords (ranOf r) → RunWords card plan inputs X table lent after words

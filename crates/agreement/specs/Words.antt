@@ -8,6 +8,7 @@ use Rattle.network.specs.Card.{Network, network, refused, readCard}
 use Rattle.network.specs.Links.{Links, linkedIn}
 use Rattle.network.specs.Rows.{rowsOf}
 use Rattle.network.specs.Split.{Split, good, bad, unread}
+use Rattle.network.specs.Print.{Print, wrote, unwritten, printInto, printedIn}
 use Rattle.plan.specs.Check.{Totals, totals}
 use Rattle.plan.specs.Check as Check
 use Rattle.steps.specs.Run.{runPlan, lentAfter}
@@ -20,6 +21,15 @@ refusedWords r = 2 ∷ whoseOf r ∷ numberOf r ∷ placeOf r ∷ []
 abbrev pub cardWords : Network → List ℕ
 cardWords (network n f links) = 0 ∷ n ∷ f ∷ 0 ∷ rowsOf (linkedIn links)
 cardWords (refused r) = refusedWords r ++ 0 ∷ 0 ∷ 0 ∷ 0 ∷ 0 ∷ 0 ∷ 0 ∷ 0 ∷ []
+
+abbrev pub printWords : Print → List ℕ
+printWords (wrote bytes) = 0 ∷ bytes ∷ 0 ∷ 0 ∷ []
+printWords (unwritten r) = refusedWords r
+
+-- the words and the lent bytes after a card is printed back
+pub record PrintWords (card lent after words : List ℕ) : Type 0 where
+  pub answer : words ≡ printWords (printInto card lent)
+  pub bytes : after ≡ printedIn card lent
 
 abbrev pub splitWords : Split → List ℕ
 splitWords good = 0 ∷ 0 ∷ 0 ∷ 0 ∷ 0 ∷ []

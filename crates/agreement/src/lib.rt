@@ -3,6 +3,8 @@
 use network::card;
 use network::card::Reading;
 use network::links;
+use network::print;
+use network::print::Printed;
 use network::split;
 use network::split::SplitAnswer;
 use plan::check;
@@ -18,7 +20,7 @@ ghost use Rattle.network.specs.Links.{linkedIn};
 ghost use Rattle.network.specs.Rows.{rowsOf};
 ghost use Rattle.network.specs.Split.{splitTest};
 ghost use Rattle.plan.specs.Check.{totals, checkPlan};
-ghost use Rattle.agreement.specs.Words.{refusedWords, cardWords, splitWords, planWords, RunWords};
+ghost use Rattle.agreement.specs.Words.{refusedWords, cardWords, PrintWords, splitWords, planWords, RunWords};
 ghost use Rattle.agreement.specs.Version.{version};
 
 // The version of this library: 1,000,000 * major + 1,000 * minor + patch.
@@ -83,6 +85,25 @@ pub extern "C" fn agreement_read_card(card: &[u8], answer: &mut [u64; 12])
         Reading::Refused(r) => {
             let head = refused_words(r);
             let words = card_words(head, [[false; 8]; 8]);
+            *answer = words;
+        }
+    }
+}
+
+// Prints the clean card. The answer is 0, the number of bytes, 0, 0, with the card in the first lent
+// bytes and the later ones as they were; or 2, what is at fault, the refusal's number, its place,
+// with every lent byte as it was.
+#[no_mangle]
+pub extern "C" fn agreement_print_card(card: &[u8], lent: &mut [u8], answer: &mut [u64; 4])
+    ensures { λ r. ⌜ PrintWords (now (card .entry)) (now (lent .entry)) (now (lent .exit)) (now (answer .exit)) ⌝ }
+{
+    let printed = print::print_card(card, &mut *lent);
+    match printed {
+        Printed::Written { bytes } => {
+            *answer = [0, bytes as u64, 0, 0];
+        }
+        Printed::Refused(r) => {
+            let words = refused_words(r);
             *answer = words;
         }
     }

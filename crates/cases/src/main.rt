@@ -5,6 +5,8 @@
 // first, and its bytes.
 //     c CARD                                   the words of the card reader
 //     s CARD                                   the words of the split test
+//     b CARD BUFFER                            the words of the card printed back, and the lent bytes
+//                                              after it
 //     p CARD PLAN                              the words of the plan check
 //     r CARD PLAN INPUTS FAULTY TABLE BUFFER   the words of the run, and the lent bytes after it
 //     t CARD PLAN RUN                          what rehearse prints
@@ -78,6 +80,12 @@ fn print_words(words: [u64; 4]) {
     }
 }
 
+fn print_bytes(bytes: &[u8]) {
+    for i in 0..bytes.len() {
+        print_byte(bytes[i]);
+    }
+}
+
 fn end_line() {
     io::write_all(STDOUT_FILENO, b"\n");
 }
@@ -115,35 +123,43 @@ fn first_byte(s: &[u8]) -> u8 {
     s[0]
 }
 
-// How many bytes are lent: as many as the part has, and at most 32.
+// How many bytes are lent: as many as the part has, and at most 256.
 fn lent_size(s: &[u8]) -> usize
-    ensures { λ r. ⌜ r ≤ 32 ⌝ }
+    ensures { λ r. ⌜ r ≤ 256 ⌝ }
 {
-    if 32 < s.len() {
-        return 32;
+    if 256 < s.len() {
+        return 256;
     }
     s.len()
 }
 
+fn print_into(card: &[u8], lent: &mut [u8]) {
+    let mut answer = [9u64; 4];
+    agreement::agreement_print_card(card, &mut *lent, &mut answer);
+    print_words(answer);
+    print_bytes(&lent[..]);
+    end_line();
+}
+
+fn print_case(card: &[u8], buffer: &[u8]) {
+    let mut lent = [165u8; 256];
+    let size = lent_size(buffer);
+    print_into(card, &mut lent[..size]);
+}
+
+fn run_into(card: &[u8], plan: &[u8], inputs: &[u8], faulty: u8, table: &[u8], lent: &mut [u8]) {
+    let mut answer = [9u64; 4];
+    agreement::agreement_run(card, plan, inputs, faulty, table, &mut *lent, &mut answer);
+    print_words(answer);
+    print_bytes(&lent[..]);
+    end_line();
+}
+
 fn run_case(card: &[u8], plan: &[u8], inputs: &[u8], faulty: &[u8], table: &[u8], buffer: &[u8]) {
-    let mut lent = [165u8; 32];
+    let mut lent = [165u8; 256];
     let set = first_byte(faulty);
     let size = lent_size(buffer);
-    let mut answer = [9u64; 4];
-    agreement::agreement_run(
-        card,
-        plan,
-        inputs,
-        set,
-        table,
-        &mut lent[..size],
-        &mut answer,
-    );
-    print_words(answer);
-    for i in 0..size {
-        print_byte(lent[i]);
-    }
-    end_line();
+    run_into(card, plan, inputs, set, table, &mut lent[..size]);
 }
 
 fn transcript_case(card: &[u8], plan: &[u8], run_in: &[u8]) {
@@ -168,6 +184,10 @@ fn answer_case(kind: u8, s: &[u8]) -> &[u8]
     }
     let plan = part(first);
     let second = after(first);
+    if kind == 98 {
+        print_case(card, plan);
+        return second;
+    }
     if kind == 112 {
         plan_case(card, plan);
         return second;

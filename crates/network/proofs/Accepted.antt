@@ -25,6 +25,7 @@ module _ {s : List ℕ} {at n f : ℕ} {links : Links} (r : At s at n f links) (
   -- the head: place 0
   pub record Headed : Type 0 where
     pub first : at ≡ 0
+    pub command : getD s at 0 ≡ 1
     pub room : at + 3 ≤ length s
     pub fits : headFits (getD s (at + 1) 0) (getD s (at + 2) 0) ≡ true
     pub step : stepAt s at n f links ≡ more (at + 3) (getD s (at + 1) 0) (getD s (at + 2) 0) links
@@ -60,7 +61,7 @@ module _ {s : List ℕ} {at n f : ℕ} {links : Links} (r : At s at n f links) (
         (λ t. absurd (not-back 2 at (simp (h, x, e, t))))
         λ t. cases (eqb at 0)
         (λ z. cases (headFits (getD s (at + 1) 0) (getD s (at + 2) 0))
-        (λ q. inl (record { first = eqb-true at 0 z; room = ltb-false (length s) (at + 3) t; fits = q; step = simp (h, x, e, t, z, q) }))
+        (λ q. inl (record { first = eqb-true at 0 z; command = eqb-true (getD s at 0) 1 e; room = ltb-false (length s) (at + 3) t; fits = q; step = simp (h, x, e, t, z, q) }))
         λ q. absurd (not-back 5 at (simp (h, x, e, t, z, q))))
         λ z. absurd (not-back 4 at (simp (h, x, e, t, z)))
 

@@ -1,4 +1,5 @@
--- What the reader's answer says of the split test: a refusal is handed on, and n, f and the links of an accepted card give the first bad split.
+-- What the reader's answer says of the card: its refusal, or n, f and the links of its network. So of the split test: a refusal is handed on, and the
+-- network gives the first bad split.
 -- Assumes nothing.
 use mathlib.Core.Path.{_≡_, refl, sym, ap, _∙_}
 use mathlib.Core.List.{List}
@@ -24,7 +25,7 @@ unfolding splitTest
 refused-split s r e = ap splitOf (sym (refused-of (readCard s) r e))
 
 -- an accepted card's links take the place of those that were lent
-links-after : (a : Network) (n f : ℕ) (lent : Links) → headOf a ≡ head n f → linksAfter a lent ≡ linksOf a
+pub links-after : (a : Network) (n f : ℕ) (lent : Links) → headOf a ≡ head n f → linksAfter a lent ≡ linksOf a
 links-after (network m g links) n f lent e = refl
 links-after (refused r) n f lent e = cc
 

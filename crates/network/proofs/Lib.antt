@@ -5,6 +5,8 @@
 -- Reading       the card reader's loop: what is left to read gives the answer of the whole
 -- Accepted      what the commands of an accepted card are
 -- Networks      the network of an accepted card is proper
+-- Pairs         the pairs of servers in their order, and the links among them
+-- CleanCard     the clean card in the lent buffer
 -- Heads         what the reader's answer says of the split test
 -- Search        what a search over one range finds
 -- Neighbours    tests that agree below n
@@ -18,6 +20,8 @@ pub mod LinkRows
 pub mod Reading
 pub mod Accepted
 pub mod Networks
+pub mod Pairs
+mod CleanCard
 pub mod Heads
 pub mod Search
 pub mod Neighbours

@@ -4,6 +4,7 @@
 -- Places       where the card reader stands
 -- Proper       what holds of the network of every accepted card
 -- Split        the splits of V in their order, and the first bad one
+-- Print        the clean card of a network, and what is written of it
 -- Weak         what makes the split test fast
 -- Answers      what the code's answers stand for
 pub mod Links
@@ -12,5 +13,6 @@ pub mod Card
 pub mod Places
 pub mod Proper
 pub mod Split
+pub mod Print
 pub mod Weak
 pub mod Answers

@@ -1,4 +1,5 @@
-// The network of a card: the card reader and the split test.
+// The network of a card: the card reader, the split test, and the clean card printed back.
 pub mod card;
 pub mod links;
+pub mod print;
 pub mod split;

@@ -11,9 +11,9 @@ const MIN_SERVERS: u8 = 2;
 const MAX_FAULTS: u8 = 2;
 
 /// Command bytes of the card.
-const OPENING: u8 = 0x01;
-const LINK: u8 = 0x02;
-const END: u8 = 0x03;
+pub(crate) const OPENING: u8 = 0x01;
+pub(crate) const LINK: u8 = 0x02;
+pub(crate) const END: u8 = 0x03;
 
 /// Bytes that each command takes, operands included.
 const OPENING_SIZE: usize = 3;

@@ -41,6 +41,7 @@ pub(crate) mod ground {
     pub const BAD_INPUTS: u8 = 12;
     /// Call: more than f faulty servers, or one that is not in V.
     pub const BAD_FAULTY_SET: u8 = 13;
-    /// Call: the lent buffer has under n bytes.
+    /// Call: the lent buffer is too short: under n bytes for a run, or shorter than
+    /// the card to be written when a card is printed back.
     pub const SHORT_BUFFER: u8 = 14;
 }

@@ -1,0 +1,76 @@
+-- The clean card in the lent buffer, and what the answer says of it.
+--     clean-long       how many bytes it has
+--     clean-refused    a buffer that is shorter is refused and stays as it was
+--     clean-written    head, links and end laid one after another over the front of the buffer are the card, then the later bytes as they were
+--     printed-..       what is said of n, f and links is said of the card that was read
+-- Assumes nothing.
+use mathlib.Core.Path.{_≡_, refl, sym, ap, _∙_}
+use mathlib.Core.List.{List, [], _∷_, _++_}
+use Prim.Native.Nat.{ℕ, suc, _+_, _-_, _≤_, _<_}
+use native.Mathlib.Nat.{add-zero, zero-add, suc-add, add-suc}
+use native.Mathlib.Omega.{arith}
+use lib.ListN.{length, set, drop, length-append, length-set}
+use lib.Seq.{sets, sets-eq, length-sets}
+use borrow.Author.Tests.{lt-ltb, le-ltb}
+use Rattle.refusal.specs.Refused.{refusalOf, call}
+use Rattle.refusal.specs.declared.Refusal.{Refusal}
+use Rattle.network.specs.Links.{Links}
+use Rattle.network.specs.Card.{network, readCard, head, turned, headOf, linksAfter}
+use Rattle.network.specs.Print.{linkBytes, cardBytes, ascending, printCard, cleanCard, laid, Print, wrote, unwritten, fitting, printInto, afterPrint, printedIn}
+use Rattle.network.specs.Answers.{printedOf, Printing}
+use Rattle.network.specs.declared.print.Printed.{Printed}
+use Rattle.network.proofs.Heads.{network-of, refused-of, links-after}
+
+-- bytes laid one part after the other
+sets-append : (a b l : List ℕ) (i : ℕ) → sets l i (a ++ b) ≡ sets (sets l i a) (i + length a) b
+sets-append [] b l i = rw add-zero refl
+sets-append (x ∷ a) b l i = let z : i + suc (length a) ≡ suc i + length a = omega arith in rw z (sets-append a b (set l i x) (suc i))
+
+-- head and links laid leave the buffer as long as it was
+pub laid-long : (old : List ℕ) (n f : ℕ) (xs lent : List ℕ) → lent ≡ laid (set (set (set old 0 1) 1 n) 2 f) 3 xs → length lent ≡ length old
+unfolding laid
+laid-long old n f xs lent e = ap length e ∙ length-sets (set (set (set old 0 1) 1 n) 2 f) 3 xs ∙ simp length-set
+
+module _ (n f : ℕ) (links : Links) where
+  pub clean-long : length (printCard n f links) ≡ 4 + length (linkBytes (ascending links))
+  unfolding printCard cardBytes
+  clean-long = let a = length-append (linkBytes (ascending links)) (3 ∷ []) in omega arith
+
+  clean-laid : (old : List ℕ) → set (sets (set (set (set old 0 1) 1 n) 2 f) 3 (linkBytes (ascending links))) (3 + length (linkBytes (ascending links))) 3 ≡ sets old 0 (printCard n f links)
+  unfolding printCard cardBytes
+  clean-laid old = sym (sets-append (linkBytes (ascending links)) (3 ∷ []) (set (set (set old 0 1) 1 n) 2 f) 3)
+
+  module _ (old : List ℕ) (bytes : ℕ) (long : bytes ≡ 4 + length (linkBytes (ascending links))) where
+    pub clean-refused : length old < bytes → unwritten (call 14) ≡ fitting (printCard n f links) old
+    unfolding fitting
+    clean-refused h = let l = clean-long in sym (simp (lt-ltb (length old) (length (printCard n f links)) (omega arith)))
+
+    module _ (room : bytes ≤ length old) where
+      pub clean-fits : wrote bytes ≡ fitting (printCard n f links) old
+      unfolding fitting
+      clean-fits = ap wrote (long ∙ sym clean-long) ∙ (let l = clean-long in sym (simp (le-ltb (length old) (length (printCard n f links)) (omega arith))))
+
+      pub clean-written : (lent : List ℕ) → lent ≡ laid (set (set (set old 0 1) 1 n) 2 f) 3 (linkBytes (ascending links))
+          → set lent (bytes - 1) 3 ≡ printCard n f links ++ drop bytes old
+      unfolding laid
+      clean-written lent e =
+          let l = clean-long in
+          let last : bytes - 1 ≡ 3 + length (linkBytes (ascending links)) = omega arith in
+          let whole : bytes ≡ 0 + length (printCard n f links) = omega arith in
+          let h : 0 + length (printCard n f links) ≤ length old = omega arith in
+          rw (last, e, whole) (clean-laid old ∙ sets-eq (printCard n f links) old 0 h)
+
+module _ (s lent : List ℕ) where
+  pub printed-refused : (r : Refusal) → headOf (readCard s) ≡ turned (refusalOf r) → Printing s lent (Printed.Refused r) lent
+  unfolding printInto printedIn
+  printed-refused r e =
+      let q = refused-of (readCard s) (refusalOf r) e in
+      record { answer = rw q refl; bytes = rw q refl }
+
+  pub printed-network : (n f : ℕ) (before links : Links) → headOf (readCard s) ≡ head n f → links ≡ linksAfter (readCard s) before
+      → (r : Printed) (after : List ℕ) → (printedOf r ≡ fitting (printCard n f links) lent) × (after ≡ afterPrint (printedOf r) (printCard n f links) lent)
+      → Printing s lent r after
+  unfolding printInto printedIn cleanCard
+  printed-network n f before links e l r after (a, b) =
+      let q : readCard s ≡ network n f links = network-of (readCard s) n f e ∙ ap (network n f) (sym (l ∙ links-after (readCard s) n f before e)) in
+      record { answer = rw q a; bytes = rw (q, ← a) b }
