@@ -1,5 +1,6 @@
 /*
- * The agreement library for x86-64 Linux (System V ABI): card reader, split test, plan check, run.
+ * The agreement library for x86-64 Linux (System V ABI): card reader, card printed back, split
+ * test, plan check, run.
  *
  * The library is written in Rattle and proved: every function below meets the contract that is
  * written above it, for all arguments. It allocates nothing, keeps no state and calls nothing, so
@@ -43,7 +44,7 @@
  *   11      plan: k is not the one due, or N breaks its rule
  *   12      call: inputs not n bytes of 0 or 1
  *   13      call: faulty set over f servers, or a server not in V
- *   14      call: lent buffer under n bytes
+ *   14      call: lent buffer under n bytes; to print a card: shorter than the card to be written
  *   The card's refusal comes before the plan's, and that before the call's 12, 13, 14.
  */
 #ifndef AGREEMENT_H
@@ -58,7 +59,7 @@ extern "C" {
 
 /* The version of this header. */
 #define AGREEMENT_VERSION_MAJOR 0
-#define AGREEMENT_VERSION_MINOR 2
+#define AGREEMENT_VERSION_MINOR 3
 #define AGREEMENT_VERSION_PATCH 0
 #define AGREEMENT_VERSION \
     (UINT64_C(1000000) * AGREEMENT_VERSION_MAJOR + UINT64_C(1000) * AGREEMENT_VERSION_MINOR + \
@@ -93,8 +94,11 @@ enum {
     AGREEMENT_SHORT_BUFFER = 14   /* `lent` */
 };
 
-/* The largest n: a buffer of so many bytes is never refused 14. */
+/* The largest n: agreement_run never refuses a buffer of so many bytes 14. */
 #define AGREEMENT_SERVERS 8
+
+/* The longest clean card: agreement_print_card never refuses a buffer of so many bytes 14. */
+#define AGREEMENT_CLEAN_CARD_LIMIT 172
 
 /* The most bytes that a card and a plan may have; longer ones are refused 1. */
 #define AGREEMENT_CARD_LIMIT 1024
@@ -121,6 +125,18 @@ uint64_t agreement_version(void);
  * Or answer: 2, AGREEMENT_CARD, number, place and eight zeros.
  */
 void agreement_read_card(const uint8_t *card, size_t card_length, uint64_t answer[12]);
+
+/*
+ * Prints the card back, clean: 01 n f, then 02 u v for each link, once, ascending by u, then by v,
+ * then 03. That is 4 bytes and 3 for each link.
+ * answer: 0, bytes, 0, 0. Then the first `bytes` bytes of `lent` are the clean card, and its later
+ * bytes are as they were. Reading the clean card gives the same network, and printing it gives the
+ * same bytes.
+ * Or answer: 2, what is at fault, number, place: the card's refusal, or 14 where `lent` is shorter
+ * than the clean card. Then every byte of `lent` is as it was.
+ */
+void agreement_print_card(const uint8_t *card, size_t card_length, uint8_t *lent,
+                          size_t lent_length, uint64_t answer[4]);
 
 /*
  * The split test: can the servers of this network agree, whichever f of them fail?

@@ -40,7 +40,7 @@ pub enum CallGround {
     Inputs,
     // The faulty set has more than f servers, or one that is not in V.
     FaultSet,
-    // The lent buffer has fewer than n bytes.
+    // The lent buffer has no room for what the call writes.
     Buffer,
 }
 

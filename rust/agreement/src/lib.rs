@@ -100,7 +100,7 @@ pub struct Version {
     pub patch: u64,
 }
 
-/// `0.2.0`.
+/// `0.3.0`.
 impl Display for Version {
     fn fmt(&self, out: &mut Formatter) -> fmt::Result {
         write!(out, "{}.{}.{}", self.major, self.minor, self.patch)
