@@ -15,7 +15,8 @@ use lib.Dec.{eqb, ltb}
 use borrow.Author.Tests.{ltb-true, ltb-false, eqb-true, eqb-false}
 use Rattle.facts.proofs.Bools.{cases}
 use Rattle.network.specs.Links.{Links, withLink}
-use Rattle.cards.specs.Twins.{Link, SameLinks}
+use Rattle.network.specs.Print.{Link}
+use Rattle.cards.specs.Twins.{SameLinks}
 
 -- in a row
 row-swap : (row : List Bool) (v b : ℕ) → set (set row v true) b true ≡ set (set row b true) v true

@@ -10,13 +10,16 @@ use Rattle.network.proofs.Accepted.{accepted-short}
 use Rattle.network.proofs.Networks.{network-accepted}
 use Rattle.plan.specs.Check.{checkPlan}
 use Rattle.steps.specs.Run.{runPlan, lentAfter}
-use Rattle.cards.specs.Twins.{wholeCard, unplaced, Alike, SeenOnce}
+use Rattle.network.specs.Print.{wholeCard, cleanCard, printInto, printedIn}
+use Rattle.cards.specs.Twins.{unplaced, Alike, SeenOnce}
 use Rattle.cards.proofs.Whole.{whole-same}
 
-read-alike : (s t : List ℕ) → readCard s ≡ readCard t → Alike s t
-unfolding splitTest checkPlan runPlan lentAfter
+pub read-alike : (s t : List ℕ) → readCard s ≡ readCard t → Alike s t
+unfolding printInto printedIn cleanCard splitTest checkPlan runPlan lentAfter
 read-alike s t e =
     record {
+      print = λ lent. rw e refl;
+      printed = λ lent. rw e refl;
       split = rw e refl;
       check = λ plan. rw e refl;
       run = λ plan inputs faulty lent. rw e refl;

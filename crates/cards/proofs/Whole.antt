@@ -10,15 +10,16 @@ use Rattle.facts.proofs.Bools.{cases, clash, and-left, and-right, both, same}
 use Rattle.refusal.specs.Refused.{card}
 use Rattle.network.specs.Links.{Links, noLinks, withLink}
 use Rattle.network.specs.Card.{Network, network, refused, headFits, linkFits, readCard}
-use Rattle.cards.specs.Twins.{Link, linkBytes, cardBytes, wholeCard, unplaced, SameLinks, SetAlone}
+use Rattle.network.specs.Print.{Link, linkBytes, cardBytes, wholeCard}
+use Rattle.cards.specs.Twins.{unplaced, SameLinks, SetAlone}
 use Rattle.cards.proofs.Marking.{marksOf, marked-same}
 use Rattle.cards.proofs.Front.{front, front-fits, front-range, card-fits, card-range}
 
-allFit : ℕ → List Link → Bool
+unfoldable pub allFit : ℕ → List Link → Bool
 allFit n [] = true
 allFit n (x ∷ xs) = linkFits n (x .0) (x .1) && allFit n xs
 
-each-fits : (n : ℕ) (xs : List Link) → allFit n xs ≡ true → (x : Link) → List·Memᴰ x xs → linkFits n (x .0) (x .1) ≡ true
+pub each-fits : (n : ℕ) (xs : List Link) → allFit n xs ≡ true → (x : Link) → List·Memᴰ x xs → linkFits n (x .0) (x .1) ≡ true
 unfolding allFit
 each-fits n [] e x m = elim m [ ]
 each-fits n (y ∷ ys) e x m =
@@ -27,7 +28,7 @@ each-fits n (y ∷ ys) e x m =
     (λ w. each-fits n ys (and-right (linkFits n (y .0) (y .1)) (allFit n ys) e) x w)
     (List·Memᴰ·cases-cons m)
 
-fit-all : (n : ℕ) (xs : List Link) → ((x : Link) → List·Memᴰ x xs → linkFits n (x .0) (x .1) ≡ true) → allFit n xs ≡ true
+pub fit-all : (n : ℕ) (xs : List Link) → ((x : Link) → List·Memᴰ x xs → linkFits n (x .0) (x .1) ≡ true) → allFit n xs ≡ true
 unfolding allFit
 fit-all n [] h = refl
 fit-all n (x ∷ xs) h =
@@ -43,7 +44,7 @@ fit-same n xs ys s =
 given : ℕ → ℕ → List Link → Network
 given n f xs = cond (headFits n f && allFit n xs) (network n f (marksOf xs noLinks)) (refused (card 5 0))
 
-whole-read : (xs : List Link) (at n f : ℕ) (links : Links) → allFit n xs ≡ true → front (linkBytes xs ++ 3 ∷ []) at n f links ≡ network n f (marksOf xs links)
+pub whole-read : (xs : List Link) (at n f : ℕ) (links : Links) → allFit n xs ≡ true → front (linkBytes xs ++ 3 ∷ []) at n f links ≡ network n f (marksOf xs links)
 unfolding linkBytes marksOf allFit front
 whole-read [] at n f links e = refl
 whole-read (x ∷ xs) at n f links e =

@@ -3,7 +3,7 @@
 --     Again       <-> a link command given again, anywhere after the first and whatever follows it, changes nothing; a fault behind it stands three
 --                     bytes later
 --     SetAlone    <-> two whole cards with one n, f and set of links give the same, but for the place of a refusal
---     SeenOnce    <-> split test, plan check and run give the same for two such cards that are read
+--     SeenOnce    <-> the printed card, split test, plan check and run are the same for two such cards that are read
 use mathlib.Core.Path.{_≡_}
 use mathlib.Core.Bool.{cond}
 use mathlib.Core.List.{List, [], _∷_, _++_, List·Memᴰ}
@@ -14,25 +14,9 @@ use Rattle.refusal.specs.Refused.{Refused, card, plan, call}
 use Rattle.network.specs.Links.{Links}
 use Rattle.network.specs.Card.{Network, network, refused, readCard}
 use Rattle.network.specs.Split.{splitTest}
+use Rattle.network.specs.Print.{Link, cardBytes, wholeCard, printInto, printedIn}
 use Rattle.plan.specs.Check.{checkPlan}
 use Rattle.steps.specs.Run.{runPlan, lentAfter}
-
--- from u to v
-abbrev pub Link : Type 0
-Link = ℕ × ℕ
-
--- 02 u v for each link
-unfoldable pub linkBytes : List Link → List ℕ
-linkBytes [] = []
-linkBytes (x ∷ xs) = 2 ∷ x .0 ∷ x .1 ∷ linkBytes xs
-
--- 01 n f, the links, and what follows them
-unfoldable pub cardBytes : (n f : ℕ) → List Link → List ℕ → List ℕ
-cardBytes n f xs rest = 1 ∷ n ∷ f ∷ (linkBytes xs ++ rest)
-
--- the same with the end and nothing more
-abbrev pub wholeCard : (n f : ℕ) → List Link → List ℕ
-wholeCard n f xs = cardBytes n f xs (3 ∷ [])
 
 -- three bytes put in at k: places before k stay
 unfoldable pub behind : ℕ → ℕ → ℕ
@@ -58,6 +42,8 @@ SameLinks xs ys = (x : Link) → (List·Memᴰ x xs → List·Memᴰ x ys) × (L
 
 -- no call tells card s from card t
 pub record Alike (s t : List ℕ) : Type 0 where
+  pub print : (lent : List ℕ) → printInto s lent ≡ printInto t lent
+  pub printed : (lent : List ℕ) → printedIn s lent ≡ printedIn t lent
   pub split : splitTest s ≡ splitTest t
   pub check : (plan : List ℕ) → checkPlan s plan ≡ checkPlan t plan
   pub run : (plan inputs : List ℕ) (faulty : ℕ) (lent : List ℕ) → runPlan s plan inputs faulty lent ≡ runPlan t plan inputs faulty lent

@@ -21,7 +21,7 @@ pub mod Reading
 pub mod Accepted
 pub mod Networks
 pub mod Pairs
-mod CleanCard
+pub mod CleanCard
 pub mod Heads
 pub mod Search
 pub mod Neighbours

@@ -18,7 +18,7 @@ use Rattle.network.specs.Places.{At}
 use Rattle.network.proofs.Reading.{reading-starts, reading-answer, reading-goes}
 use Rattle.network.proofs.Accepted.{Accepted, Headed, Linked, Ended, outcome, accepted-short}
 
-no-links : (u v : ℕ) → linkedIn noLinks u v ≡ false
+pub no-links : (u v : ℕ) → linkedIn noLinks u v ≡ false
 unfolding linkedIn noLinks
 no-links u v =
     cases (ltb u 8)
