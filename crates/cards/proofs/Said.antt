@@ -123,7 +123,7 @@ said s n f links short p a c t b r =
     record {
       given = r .given;
       bytes = cc;
-      short = short;
+      short = omega arith;
       least = p .least;
       most = p .most;
       bound = p .bound;
