@@ -10,8 +10,10 @@
  * length, so that a read or write one byte outside is an error to the checker.
  *
  * It also holds each answer to what the header promises: no row of a card has a server that is not
- * there or its own, a refused card's are empty, no lent byte past n is changed, a refused call changes
- * none, and the bits of the servers that are not faulty are equal and some such server's input.
+ * there or its own, a refused card's are empty, a printed card has the links of its rows in order, is
+ * read as the same rows and stays as it is when printed again, no lent byte past what is written is
+ * changed, a refused call changes none, and the bits of the servers that are not faulty are equal and
+ * some such server's input.
  */
 #include "agreement.h"
 
@@ -20,7 +22,7 @@
 #include <stdlib.h>
 #include <string.h>
 
-enum { MOST = 70000, POOL = 2048, LENT_MOST = 16, UNTOUCHED = 0xA5 };
+enum { MOST = 70000, POOL = 2048, LENT_MOST = 16, UNTOUCHED = 0xA5, CLEAN_MOST = AGREEMENT_CLEAN_CARD_LIMIT + 20 };
 
 static uint64_t state;
 
@@ -51,7 +53,7 @@ static struct list list_of(const uint8_t *bytes, size_t length)
 }
 
 /* A list of no bytes in a block of none: a pointer just past a block of one byte. */
-static const uint8_t *start_of(struct list list)
+static uint8_t *start_of(struct list list)
 {
     return list.length == 0 ? list.bytes + 1 : list.bytes;
 }
@@ -167,6 +169,73 @@ static void hold_card(const uint64_t answer[12])
     }
 }
 
+/* The card that the rows of a network stand for, with its links ascending; its length. */
+static size_t clean_card(const uint64_t network[12], uint8_t clean[CLEAN_MOST])
+{
+    size_t length = 0;
+    clean[length++] = 0x01;
+    clean[length++] = (uint8_t)network[1];
+    clean[length++] = (uint8_t)network[2];
+    for (uint8_t u = 0; u < AGREEMENT_SERVERS; u++)
+        for (uint8_t v = 0; v < AGREEMENT_SERVERS; v++)
+            if (network[4 + u] >> v & 1) {
+                clean[length++] = 0x02;
+                clean[length++] = u;
+                clean[length++] = v;
+            }
+    clean[length++] = 0x03;
+    return length;
+}
+
+/* A refused call to print: the card's own refusal, or a short buffer. */
+static void hold_not_printed(const uint64_t answer[4], const uint64_t network[12], int is_short)
+{
+    const uint64_t refused[4] = {AGREEMENT_REFUSED, AGREEMENT_CALL, AGREEMENT_SHORT_BUFFER, 0};
+    if (network[0] == AGREEMENT_ANSWERED && !is_short)
+        fail("a card was not printed into a buffer with room for it");
+    if (memcmp(answer, network[0] == AGREEMENT_ANSWERED ? refused : network, sizeof refused) != 0)
+        fail("a card that was not printed has another refusal than it should");
+}
+
+static void hold_printed(const uint64_t network[12], const uint8_t *clean, size_t length)
+{
+    const uint64_t expected[4] = {AGREEMENT_ANSWERED, length, 0, 0};
+    struct list card = list_of(clean, length), lent = list_of(clean, length);
+    uint64_t again[12], answer[4];
+    agreement_read_card(card.bytes, card.length, again);
+    if (memcmp(again, network, sizeof again) != 0)
+        fail("a printed card is not read as the same network");
+    memset(lent.bytes, UNTOUCHED, lent.length);
+    agreement_print_card(card.bytes, card.length, lent.bytes, lent.length, answer);
+    if (memcmp(answer, expected, sizeof answer) != 0 || memcmp(lent.bytes, clean, length) != 0)
+        fail("a printed card does not stay as it is");
+    free(card.bytes);
+    free(lent.bytes);
+}
+
+/* Prints a card that was read with this answer, into a buffer of a length about the right one or any. */
+static void call_print(struct list card, const uint64_t network[12], uint64_t answer[4])
+{
+    static uint8_t untouched[CLEAN_MOST];
+    uint8_t clean[CLEAN_MOST];
+    size_t due = clean_card(network, clean);
+    memset(untouched, UNTOUCHED, sizeof untouched);
+    struct list lent = list_of(untouched, draw(2) == 0 ? draw(CLEAN_MOST) : due - 2 + draw(5));
+    agreement_print_card(start_of(card), card.length, start_of(lent), lent.length, answer);
+    size_t written = answer[0] == AGREEMENT_ANSWERED ? answer[1] : 0;
+    if (answer[0] != AGREEMENT_ANSWERED)
+        hold_not_printed(answer, network, lent.length < due);
+    else if (network[0] != AGREEMENT_ANSWERED || answer[1] != due || answer[2] != 0 || answer[3] != 0)
+        fail("a card was printed that should not be, or with another length");
+    if (memcmp(lent.bytes, clean, written) != 0)
+        fail("a printed card is not its network with the links ascending");
+    if (memcmp(lent.bytes + written, untouched, lent.length - written) != 0)
+        fail("a byte was written that is not the printed card's");
+    if (written > 0)
+        hold_printed(network, lent.bytes, written);
+    free(lent.bytes);
+}
+
 static void hold_run(const uint64_t answer[4], const uint8_t *lent, size_t size, const uint8_t *inputs,
                      uint64_t n, uint8_t faulty)
 {
@@ -193,15 +262,21 @@ static void hold_run(const uint64_t answer[4], const uint8_t *lent, size_t size,
         fail("the bit is no sound server's input");
 }
 
+/* How many runs were answered and how many cards printed. */
+static uint64_t answered, cards;
+
 /* Calls every function on the files; says whether an answer was new. */
-static int call_all(struct files files, uint64_t *answered)
+static int call_all(struct files files)
 {
     const uint8_t *card = start_of(files.card), *plan = start_of(files.plan);
-    uint64_t network[12], split[5], checked[4], ran[4];
+    uint64_t network[12], printed[4], split[5], checked[4], ran[4];
     int fresh = 0;
     agreement_read_card(card, files.card.length, network);
     fresh |= is_new(network, 0);
     hold_card(network);
+    call_print(files.card, network, printed);
+    fresh |= is_new(printed, 4);
+    cards += printed[0] == AGREEMENT_ANSWERED;
     agreement_split_test(card, files.card.length, split);
     fresh |= is_new(split, 1);
     agreement_check_plan(card, files.card.length, plan, files.plan.length, checked);
@@ -216,12 +291,11 @@ static int call_all(struct files files, uint64_t *answered)
     static uint8_t untouched[LENT_MOST];
     memset(untouched, UNTOUCHED, sizeof untouched);
     struct list lent = list_of(untouched, draw(4) == 0 ? draw(LENT_MOST) : AGREEMENT_SERVERS + draw(3));
-    uint8_t *lent_start = lent.length == 0 ? lent.bytes + 1 : lent.bytes;
     agreement_run(card, files.card.length, plan, files.plan.length, start_of(inputs), inputs.length, faulty,
-                  start_of(table), table.length, lent_start, lent.length, ran);
+                  start_of(table), table.length, start_of(lent), lent.length, ran);
     fresh |= is_new(ran, 3);
     hold_run(ran, lent.bytes, lent.length, inputs.bytes, n, faulty);
-    *answered += ran[0] == AGREEMENT_ANSWERED;
+    answered += ran[0] == AGREEMENT_ANSWERED;
     free(inputs.bytes);
     free(table.bytes);
     free(lent.bytes);
@@ -236,12 +310,11 @@ int main(int argc, char **argv)
     }
     uint64_t calls = strtoull(argv[1], NULL, 10);
     state = strtoull(argv[2], NULL, 10) * 2 + 1;
-    uint64_t answered = 0;
     for (int i = 3; i < argc && pooled < POOL; i++) {
         struct files files = {read_list(argv[i], "network.card"), read_list(argv[i], "network.plan"),
                               read_list(argv[i], "run.in")};
         pool[pooled++] = files;
-        call_all(files, &answered);
+        call_all(files);
     }
     for (uint64_t k = 0; k < calls; k++) {
         /* Every other round keeps the card and plan of a site, so that many runs are answered. */
@@ -257,7 +330,7 @@ int main(int argc, char **argv)
             free(parts[which]->bytes);
             *parts[which] = next;
         }
-        if (call_all(files, &answered) && pooled < POOL) {
+        if (call_all(files) && pooled < POOL) {
             pool[pooled++] = files;
         } else {
             free(files.card.bytes);
@@ -265,7 +338,8 @@ int main(int argc, char **argv)
             free(files.run_in.bytes);
         }
     }
-    printf("campaign: %" PRIu64 " rounds, %" PRIu64 " runs answered, %zu kept\n", calls, answered, pooled);
+    printf("campaign: %" PRIu64 " rounds, %" PRIu64 " cards printed, %" PRIu64 " runs answered, %zu kept\n", calls,
+           cards, answered, pooled);
     for (size_t i = 0; i < pooled; i++) {
         free(pool[i].card.bytes);
         free(pool[i].plan.bytes);

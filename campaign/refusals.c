@@ -14,6 +14,7 @@
 #include <string.h>
 
 enum { UNTOUCHED = 0xA5, FILL = 0xFF, ROUTE_BYTES = 8, LENT = AGREEMENT_SERVERS + 1 };
+enum { CLEAN_LENT = AGREEMENT_CLEAN_CARD_LIMIT + 1 };
 enum { HEAD = 0x01, LINK, CARD_END };
 enum { BLOCK = 0x10, TO_S, WITHIN_S, FROM_S, REPORT, PLAN_END };
 
@@ -73,6 +74,23 @@ static void read_card(const char *what, struct list card, const uint64_t expecte
     hold("agreement_read_card", what, answer.words, expected, 12);
 }
 
+/* Prints into so many bytes, and holds the lent ones: the clean card first, then as they were. */
+static void print_card(const char *what, struct list card, size_t length,
+                       const uint64_t expected[4], struct list clean)
+{
+    struct answer answer = blank();
+    uint8_t lent[CLEAN_LENT];
+    memset(lent, UNTOUCHED, sizeof lent);
+    agreement_print_card(card.bytes, card.length, lent, length, answer.words);
+    hold("agreement_print_card", what, answer.words, expected, 4);
+    for (size_t i = 0; i < sizeof lent; i++) {
+        if (lent[i] != (i < clean.length ? clean.bytes[i] : UNTOUCHED)) {
+            printf("refusals: agreement_print_card on %s: lent byte %zu is %u\n", what, i, lent[i]);
+            status = 1;
+        }
+    }
+}
+
 static void split_test(const char *what, struct list card, const uint64_t expected[5])
 {
     struct answer answer = blank();
@@ -119,6 +137,9 @@ static void card_refused(const char *what, struct list card, uint64_t number, ui
 {
     const uint64_t expected[12] = {AGREEMENT_REFUSED, AGREEMENT_CARD, number, place};
     read_card(what, card, expected);
+    /* Its refusal comes before that of a short buffer. */
+    print_card(what, card, CLEAN_LENT, expected, zeros_of(0));
+    print_card(what, card, 0, expected, zeros_of(0));
     split_test(what, card, expected);
     check_plan(what, card, zeros_of(0), expected);
     run(what, card, zeros_of(0), two_servers, expected, 0);
@@ -287,6 +308,27 @@ static void calls(struct list card, struct list plan)
     call_refused("one byte lent to two servers", card, plan, call, AGREEMENT_SHORT_BUFFER);
 }
 
+/* A card is printed into buffers with room for its clean card, and refused 14 for shorter ones. */
+static void printed(const char *what, struct list card, struct list clean)
+{
+    const uint64_t expected[4] = {AGREEMENT_ANSWERED, clean.length, 0, 0};
+    const uint64_t refused[4] = {AGREEMENT_REFUSED, AGREEMENT_CALL, AGREEMENT_SHORT_BUFFER, 0};
+    print_card(what, card, clean.length, expected, clean);
+    print_card(what, card, CLEAN_LENT, expected, clean);
+    print_card(what, card, clean.length - 1, refused, zeros_of(0));
+    print_card(what, card, 0, refused, zeros_of(0));
+}
+
+static void prints(void)
+{
+    struct list clean = LIST(HEAD, 3, 1, LINK, 0, 1, LINK, 0, 2, LINK, 2, 1, CARD_END);
+    printed("a clean card", clean, clean);
+    printed("links in another order, and one given again",
+            LIST(HEAD, 3, 1, LINK, 2, 1, LINK, 0, 2, LINK, 0, 1, LINK, 2, 1, CARD_END), clean);
+    clean = LIST(HEAD, 2, 0, CARD_END);
+    printed("a card without links", clean, clean);
+}
+
 /* Two servers with a link from 0 to 1, the smallest site. */
 static void small_site(const char *what, struct list card, struct list plan)
 {
@@ -294,6 +336,7 @@ static void small_site(const char *what, struct list card, struct list plan)
     const uint64_t none[5] = {AGREEMENT_ANSWERED};
     const uint64_t totals[4] = {AGREEMENT_ANSWERED, 1, 1, 0};
     read_card(what, card, network);
+    printed(what, card, (struct list){small_card, sizeof small_card});
     split_test(what, card, none);
     check_plan(what, card, plan, totals);
     run(what, card, plan, two_servers, totals, 2);
@@ -318,7 +361,8 @@ static void bad_split(void)
     split_test("no links", LIST(HEAD, 2, 0, CARD_END), split);
 }
 
-/* As many servers as there can be: they are read, and a buffer of so many bytes is enough. */
+/* As many servers as there can be: they are read, and a buffer of so many bytes is enough for a run.
+   With all their links the clean card takes its limit. */
 static void most_servers(void)
 {
     const uint64_t all = (1u << AGREEMENT_SERVERS) - 1;
@@ -333,6 +377,12 @@ static void most_servers(void)
     totals[2] = (plan.length - 1 - 4 * totals[1]) / (1 + ROUTE_BYTES);
     struct call call = {zeros_of(AGREEMENT_SERVERS), 0, AGREEMENT_SERVERS};
     read_card("all servers", card, network);
+    if (card.length == AGREEMENT_CLEAN_CARD_LIMIT) {
+        printed("all servers", card, card);
+    } else {
+        printf("refusals: the longest clean card has %zu bytes\n", card.length);
+        status = 1;
+    }
     check_plan("all servers", card, plan, totals);
     run("all servers", card, plan, call, totals, AGREEMENT_SERVERS);
     call.lent--;
@@ -345,6 +395,7 @@ int main(void)
     cards();
     plans(card);
     calls(card, plan);
+    prints();
     small_site("the small site", card, plan);
     twin_cables(plan);
     bad_split();

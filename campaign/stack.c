@@ -23,11 +23,11 @@
 /* Four times what a call may use, so that one that uses more is seen and not only stopped. */
 enum { SIZE = 4 * AGREEMENT_STACK, PAINT = 0xA5, FILE_MOST = 70000 };
 
-enum function { VERSION, READ_CARD, SPLIT_TEST, CHECK_PLAN, RUN, FUNCTIONS };
+enum function { VERSION, READ_CARD, PRINT_CARD, SPLIT_TEST, CHECK_PLAN, RUN, FUNCTIONS };
 
 static const char *const names[FUNCTIONS] = {
-    "agreement_version", "agreement_read_card", "agreement_split_test", "agreement_check_plan",
-    "agreement_run"};
+    "agreement_version", "agreement_read_card", "agreement_print_card", "agreement_split_test",
+    "agreement_check_plan", "agreement_run"};
 
 struct list {
     uint8_t bytes[FILE_MOST];
@@ -37,8 +37,8 @@ struct list {
 /* What a call hands over. It is static, so that the calling function has next to no frame. */
 static struct list card, plan, run_in;
 static const uint8_t *inputs, *table;
-static size_t inputs_length, table_length, lent_length;
-static uint8_t faulty, lent[2 * AGREEMENT_SERVERS];
+static size_t inputs_length, table_length, lent_length, clean_length;
+static uint8_t faulty, lent[2 * AGREEMENT_SERVERS], clean[AGREEMENT_CLEAN_CARD_LIMIT];
 static uint64_t answer[12];
 static enum function function;
 
@@ -55,6 +55,9 @@ static void call(void)
         break;
     case READ_CARD:
         agreement_read_card(card.bytes, card.length, answer);
+        break;
+    case PRINT_CARD:
+        agreement_print_card(card.bytes, card.length, clean, clean_length, answer);
         break;
     case SPLIT_TEST:
         agreement_split_test(card.bytes, card.length, answer);
@@ -124,6 +127,7 @@ static void call_run(void)
 static void call_all(void)
 {
     call_apart(VERSION);
+    call_apart(PRINT_CARD);
     call_apart(SPLIT_TEST);
     call_apart(CHECK_PLAN);
     call_run();
@@ -173,6 +177,8 @@ int main(int argc, char **argv)
         read_list(&card, argv[i], "network.card");
         read_list(&plan, argv[i], "network.plan");
         read_list(&run_in, argv[i], "run.in");
+        for (clean_length = 0; clean_length < sizeof clean; clean_length++)
+            call_apart(PRINT_CARD);
         for (lent_length = 0; lent_length < sizeof lent; lent_length++)
             call_all();
         damage(&card);

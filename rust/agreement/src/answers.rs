@@ -1,8 +1,8 @@
 //! What the words of an answer say, in the types of this crate. Each function answers
 //! with `None` for words that the library's contract rules out.
 
-use crate::PLAN_LIMIT;
 use crate::{CallGround, CardGround, Network, PlanGround, Refusal, ServerSet, Split, Totals};
+use crate::{CLEAN_CARD_LIMIT, PLAN_LIMIT};
 
 /// Lent answers start out as this, which no answer holds: a word that the library left
 /// unwritten would be noticed.
@@ -17,6 +17,11 @@ const REFUSED: u64 = 2;
 const OF_CARD: u64 = 0;
 const OF_PLAN: u64 = 1;
 const OF_CALL: u64 = 2;
+
+/// A clean card without links has this many bytes, and each link adds so many.
+const WITHOUT_LINKS: u64 = 4;
+const OF_A_LINK: u64 = 3;
+const LONGEST_CLEAN: u64 = CLEAN_CARD_LIMIT as u64;
 
 /// No network has more blocks than one of eight servers and two faults.
 const MOST_BLOCKS: u64 = 1_499;
@@ -42,6 +47,23 @@ pub fn network(answer: &[u64; 12]) -> Option<Network> {
 pub fn card_refusal(answer: &[u64; 12]) -> Option<Refusal> {
     match *answer {
         [REFUSED, OF_CARD, number, place, 0, 0, 0, 0, 0, 0, 0, 0] => of_card(number, place),
+        _ => None,
+    }
+}
+
+/// How many bytes were printed, or the refusal.
+pub fn printed_or_refusal(answer: [u64; 4]) -> Option<Result<usize, Refusal>> {
+    match answer {
+        [ANSWERED, bytes @ WITHOUT_LINKS..=LONGEST_CLEAN, 0, 0]
+            if (bytes - WITHOUT_LINKS).is_multiple_of(OF_A_LINK) =>
+        {
+            Some(Ok(usize::try_from(bytes).ok()?))
+        }
+        [REFUSED, OF_CARD, number, place] => Some(Err(of_card(number, place)?)),
+        // Neither inputs nor a faulty set are handed over.
+        [REFUSED, OF_CALL, number, 0] => CallGround::of_number(number)
+            .filter(|&ground| ground == CallGround::Buffer)
+            .map(|ground| Err(Refusal::Call { ground })),
         _ => None,
     }
 }
@@ -115,6 +137,9 @@ mod tests {
     const FAULT_SET: Refusal = Refusal::Call {
         ground: CallGround::FaultSet,
     };
+    const SHORT_BUFFER: Refusal = Refusal::Call {
+        ground: CallGround::Buffer,
+    };
 
     #[test]
     fn words_of_a_card_become_its_network_or_refusal() {
@@ -129,6 +154,17 @@ mod tests {
         let refused = [2, 0, 5, 87, 0, 0, 0, 0, 0, 0, 0, 0];
         assert_eq!(network(&refused), None);
         assert_eq!(card_refusal(&refused), Some(OUT_OF_RANGE));
+    }
+
+    #[test]
+    fn words_of_a_printed_card_become_the_answers_they_stand_for() {
+        for links in 0..=56 {
+            let bytes = 4 + 3 * links;
+            let answer = printed_or_refusal([0, bytes, 0, 0]);
+            assert_eq!(answer, Some(Ok(bytes as usize)), "{links} links");
+        }
+        assert_eq!(printed_or_refusal([2, 0, 5, 87]), Some(Err(OUT_OF_RANGE)));
+        assert_eq!(printed_or_refusal([2, 2, 14, 0]), Some(Err(SHORT_BUFFER)));
     }
 
     #[test]
@@ -176,6 +212,36 @@ mod tests {
         ] {
             assert_eq!(network(&answer), None, "{answer:?}");
             assert_eq!(card_refusal(&answer), None, "{answer:?}");
+        }
+    }
+
+    #[test]
+    fn words_that_are_no_answer_of_the_printed_card_are_noticed() {
+        for answer in [
+            [UNWRITTEN; 4],
+            [0, UNWRITTEN, 0, 0],
+            [0, 7, UNWRITTEN, 0],
+            [0, 7, 0, UNWRITTEN],
+            [0, 0, 0, 0],
+            [0, 1, 0, 0],
+            [0, 5, 0, 0],
+            [0, 6, 0, 0],
+            [0, 171, 0, 0],
+            [0, 173, 0, 0],
+            [0, 175, 0, 0],
+            [0, 7, 1, 0],
+            [0, 7, 0, 1],
+            [1, 7, 0, 0],
+            [2, 0, 6, 87],
+            [2, 0, 14, 0],
+            [2, 1, 2, 4],
+            [2, 2, 12, 0],
+            [2, 2, 13, 0],
+            [2, 2, 14, 1],
+            [2, 2, 15, 0],
+            [2, 3, 14, 0],
+        ] {
+            assert_eq!(printed_or_refusal(answer), None, "{answer:?}");
         }
     }
 

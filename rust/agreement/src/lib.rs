@@ -1,5 +1,6 @@
-//! Safe functions over the proved agreement library: the card reader, the split test,
-//! the plan check and the run, for networks of 2 to 8 servers of which at most 2 fail.
+//! Safe functions over the proved agreement library, for networks of 2 to 8 servers of
+//! which at most 2 fail: the card reader, the card printed back, the split test, the plan
+//! check and the run.
 //!
 //! The library is written and proved in Rattle and linked as a static archive; its
 //! contracts, not this crate, say why the answers are right. What is done here is to
@@ -41,6 +42,9 @@ use std::fmt::{self, Display, Formatter};
 
 /// How many bytes a card has at most.
 pub const CARD_LIMIT: usize = 1_024;
+/// How many bytes a clean card has at most: a buffer of so many is never too short for
+/// [`print_card`].
+pub const CLEAN_CARD_LIMIT: usize = 172;
 /// How many bytes a plan has at most.
 pub const PLAN_LIMIT: usize = 1_048_576;
 
@@ -148,6 +152,41 @@ pub fn read_card(card: &[u8]) -> Result<Network, Refusal> {
         return Err(refusal);
     }
     panic!("the card reader cannot answer {answer:?} on {card:02x?}")
+}
+
+/// Writes the clean card of the network on `card` to the front of `lent` and answers with
+/// its number of bytes, 4 and 3 for each link.
+///
+/// The clean card has each link once, ascending by where it starts and then by where it
+/// leads, so that two cards of one network are printed alike. Reading it gives the same
+/// network, and printing it gives the same bytes. The card's own refusal comes before that
+/// of a buffer which is too short. A refused call changes no byte of `lent`, and bytes of
+/// `lent` past the clean card are never touched.
+///
+/// ```
+/// // The link from 2 to 1 stands first, and that from 0 to 1 twice.
+/// let card = [0x01, 3, 1, 0x02, 2, 1, 0x02, 0, 1, 0x02, 0, 1, 0x03];
+/// let mut lent = [0; agreement::CLEAN_CARD_LIMIT];
+/// let bytes = agreement::print_card(&card, &mut lent)?;
+/// assert_eq!(lent[..bytes], [0x01, 3, 1, 0x02, 0, 1, 0x02, 2, 1, 0x03]);
+/// # Ok::<(), agreement::Refusal>(())
+/// ```
+pub fn print_card(card: &[u8], lent: &mut [u8]) -> Result<usize, Refusal> {
+    let mut answer = [UNWRITTEN; 4];
+    // SAFETY: each pointer and length are those of one live slice; an empty slice's
+    // pointer is not null either. Only `lent` and `answer` are written; both are lent
+    // for the call alone, and nothing else refers to either of them.
+    unsafe {
+        library::agreement_print_card(
+            card.as_ptr(),
+            card.len(),
+            lent.as_mut_ptr(),
+            lent.len(),
+            &mut answer,
+        )
+    };
+    answers::printed_or_refusal(answer)
+        .unwrap_or_else(|| panic!("the card cannot be printed as {answer:?} says: {card:02x?}"))
 }
 
 /// Answers with the first bad split of the network on `card`, or with `None` if it
@@ -300,6 +339,77 @@ mod tests {
         assert_eq!(read_card(&[]), Err(card_cut(0)));
         assert_eq!(split_test(&[]), Err(card_cut(0)));
         assert_eq!(check_plan(&[], &[]), Err(card_cut(0)));
+    }
+
+    /// A link from 2 to 1, then one from 0 to 2 twice, and the clean card of that.
+    const PATCHED: [u8; 13] = [1, 3, 2, 2, 2, 1, 2, 0, 2, 2, 0, 2, 3];
+    const CLEAN: [u8; 10] = [1, 3, 2, 2, 0, 2, 2, 2, 1, 3];
+
+    const SHORT_BUFFER: Refusal = Refusal::Call {
+        ground: CallGround::Buffer,
+    };
+
+    /// Prints into so many of sixteen bytes; the answer, and all sixteen.
+    fn printed(card: &[u8], length: usize) -> (Result<usize, Refusal>, [u8; 16]) {
+        let mut lent = [9; 16];
+        let answer = print_card(card, &mut lent[..length]);
+        (answer, lent)
+    }
+
+    #[test]
+    fn cards_are_printed_into_every_buffer_with_room_for_them() {
+        for (card, clean) in [
+            (&P1[..], &P1[..]),
+            (&[1, 8, 2, 3], &[1, 8, 2, 3]),
+            (&CLEAN, &CLEAN),
+            (&PATCHED, &CLEAN),
+        ] {
+            for length in 0..clean.len() {
+                assert_eq!(printed(card, length), (Err(SHORT_BUFFER), [9; 16]));
+            }
+            let mut written = [9; 16];
+            written[..clean.len()].copy_from_slice(clean);
+            for length in clean.len()..=16 {
+                assert_eq!(printed(card, length), (Ok(clean.len()), written));
+            }
+        }
+    }
+
+    #[test]
+    fn the_longest_clean_card_takes_the_limit() {
+        let pairs = (0..8).flat_map(|u| (0..8).map(move |v| (u, v)));
+        let links: Vec<(u8, u8)> = pairs.filter(|(u, v)| u != v).collect();
+        let command = |&(u, v): &(u8, u8)| [2, u, v];
+        let card = |links: Vec<u8>| [&[1, 8, 2][..], &links, &[3]].concat();
+        let clean = card(links.iter().flat_map(command).collect());
+        let backwards = card(links.iter().rev().flat_map(command).collect());
+        let mut lent = [9; CLEAN_CARD_LIMIT];
+        assert_eq!(print_card(&backwards, &mut lent), Ok(CLEAN_CARD_LIMIT));
+        assert_eq!(lent[..], clean);
+        assert_eq!(print_card(&backwards, &mut lent[1..]), Err(SHORT_BUFFER));
+        assert_eq!(lent[..], clean, "refused, all as it was");
+    }
+
+    #[test]
+    fn a_refused_card_is_not_printed() {
+        let mut many = [3; CARD_LIMIT + 1];
+        many[..3].copy_from_slice(&[1, 2, 0]);
+        for (card, ground, place) in [
+            (&many[..], CardGround::TooLong, 0),
+            (&[], CardGround::Cut, 0),
+            (&P1[..6], CardGround::Cut, 6),
+            (&[1, 2, 0, 3, 3], CardGround::Trailing, 4),
+            (&[3], CardGround::Head, 0),
+            (&[1, 9, 0, 3], CardGround::Range, 0),
+        ] {
+            // The card's fault comes before that of a buffer which is too short.
+            for length in [0, 3, 4, CLEAN_CARD_LIMIT, CLEAN_CARD_LIMIT + 1] {
+                let mut lent = vec![9; length];
+                let refusal = Refusal::Card { ground, place };
+                assert_eq!(print_card(card, &mut lent), Err(refusal));
+                assert_eq!(lent, vec![9; length], "refused, all as it was");
+            }
+        }
     }
 
     #[test]

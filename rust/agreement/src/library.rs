@@ -8,6 +8,16 @@ extern "C" {
     /// refusal and eight zeros.
     pub fn agreement_read_card(card: *const u8, length: usize, answer: *mut [u64; 12]);
 
+    /// Writes {0, bytes, 0, 0} and the clean card to the first lent bytes, or {2, whose,
+    /// number, place} for a refusal and no lent byte.
+    pub fn agreement_print_card(
+        card: *const u8,
+        card_length: usize,
+        lent: *mut u8,
+        lent_length: usize,
+        answer: *mut [u64; 4],
+    );
+
     /// Writes {0, 0, 0, 0, 0} for no bad split, {1, F, L, C, R} for the first
     /// one, or {2, whose, number, place, 0} for a refusal.
     pub fn agreement_split_test(card: *const u8, length: usize, answer: *mut [u64; 5]);

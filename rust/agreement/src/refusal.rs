@@ -138,7 +138,7 @@ grounds! {
     CallGround {
         Inputs = 12, "the inputs are not n bytes of 0 or 1";
         FaultSet = 13, "the faulty set has more than f servers, or one that is not in the network";
-        Buffer = 14, "the lent buffer has fewer than n bytes";
+        Buffer = 14, "the lent buffer has fewer than n bytes or, to print a card, fewer than the card to be written";
     }
 }
 
@@ -181,7 +181,8 @@ mod tests {
         };
         assert_eq!(
             of_call.to_string(),
-            "refused call 14: the lent buffer has fewer than n bytes"
+            "refused call 14: the lent buffer has fewer than n bytes or, to print a card, fewer than \
+             the card to be written"
         );
         assert_eq!((of_call.number(), of_call.place()), (14, None));
         let _: &dyn Error = &of_call;

@@ -11,3 +11,6 @@ pub use loops::{
     truncations, twin_cables, CARDS_OF_A_LENGTH,
 };
 pub use tally::Tally;
+
+pub(crate) use given::CARDS;
+pub(crate) use loops::{fillings, sizes, small_networks, sound_cards};

@@ -13,6 +13,7 @@ mod blocks;
 mod calls;
 mod captions;
 mod cases;
+mod clean;
 mod commands;
 mod examples;
 mod formulas;
@@ -86,7 +87,7 @@ pub const BYTES: &[Check] = &[commands::stated, sets::stated];
 /// Which blocks are due, and how many.
 pub const BLOCKS: &[Check] = &[blocks::counted, blocks::ordered, blocks::least_sizes];
 /// How long cards and plans can be.
-pub const LENGTHS: &[Check] = &[lengths::stated];
+pub const LENGTHS: &[Check] = &[lengths::stated, clean::stated];
 /// The small cases.
 pub const CASES: &[Check] = &[cases::stated, cases::proved, sets::split];
 /// What a run does.
@@ -127,6 +128,7 @@ pub fn library_takes_the_lengths() {
     lengths::formula_is_right();
     lengths::too_few_sources_are_refused();
     lengths::no_link_is_left();
+    clean::lengths_are_right();
 }
 
 /// The steps that the checks go through decide as it does.

@@ -27,6 +27,7 @@ pub mod cards;
 pub mod converted;
 pub mod documents;
 pub mod plans;
+pub mod prints;
 pub mod rehearsals;
 pub mod runs;
 mod text;

@@ -11,3 +11,5 @@ pub use loops::{
     PLAN_LIMIT,
 };
 pub use tally::{Damages, Tally};
+
+pub(crate) use given::PLANS;

@@ -31,3 +31,5 @@ pub use loops::{
     twin_cables, wrong_calls,
 };
 pub use tally::Tally;
+
+pub(crate) use given::RUNS;

@@ -5,6 +5,7 @@ lirgoth: a site's network, its plan and its drills, for the installer
 
   lirgoth card CHART [--hex | --site SITE]   the card of a link chart
   lirgoth chart SITE                         the link chart of a card
+  lirgoth print SITE [--hex]                 the card, clean: each link once, in order
   lirgoth explain SITE                       can the offices agree, is the plan accepted,
                                              what does each office show
   lirgoth drill SITE --inputs 11010          a run without a run.in
@@ -47,6 +48,18 @@ lirgoth chart SITE
 
 Writes the link chart of SITE/network.card on standard output, with the names of
 SITE/network.chart where that is there and of the same network.
+";
+
+pub const PRINT: &str = "\
+lirgoth print SITE [--hex]
+
+Writes the clean card of SITE/network.card, on standard output as bytes: the same network,
+with each link once, ascending by the office that it comes from and then by the one that it
+leads to. Two cards of one network are printed alike, and a clean card stays as it is.
+  --hex  as hexadecimal digits, for the eye
+
+To put it in the place of the card, write it to another file first: a shell that is told
+> SITE/network.card empties that file before it is read.
 ";
 
 pub const EXPLAIN: &str = "\

@@ -12,7 +12,7 @@ use crate::picture;
 use crate::progress::Progress;
 use crate::refused;
 use crate::site::{self, Site, Unreadable, CARD, CHART, RUN};
-use agreement::{Network, Refusal, ServerSet};
+use agreement::{Network, Refusal, ServerSet, CLEAN_CARD_LIMIT};
 use std::fs;
 use std::io::{self, IsTerminal};
 use std::path::Path;
@@ -28,7 +28,7 @@ pub fn find(name: &str) -> Option<&'static Verb> {
     VERBS.iter().find(|verb| verb.name == name)
 }
 
-const VERBS: [Verb; 8] = [
+const VERBS: [Verb; 9] = [
     Verb {
         name: "card",
         help: help::CARD,
@@ -40,6 +40,12 @@ const VERBS: [Verb; 8] = [
         help: help::CHART,
         known: &[],
         run: |args| on_site(args, chart_of),
+    },
+    Verb {
+        name: "print",
+        help: help::PRINT,
+        known: &[("--hex", None)],
+        run: print,
     },
     Verb {
         name: "explain",
@@ -131,13 +137,19 @@ fn card(args: &Args) -> Result<Answer, String> {
         let stored = store(Path::new(folder), &card, &bytes);
         return Ok(stored.map_or_else(unreadable, Answer::of));
     }
+    put_out(card, hex, "--hex or --site")
+}
+
+/// The card as bytes, or in hexadecimal if that is asked for. A terminal has no use for
+/// bytes: there the caller is to add one of `options`.
+fn put_out(card: Vec<u8>, hex: bool, options: &str) -> Result<Answer, String> {
     if hex {
         return Ok(Answer::of(in_hexadecimal(&card)));
     }
     if io::stdout().is_terminal() {
-        return Err(
-            "a card is bytes, not text: name a file with >, or add --hex or --site".to_string(),
-        );
+        return Err(format!(
+            "a card is bytes, not text: name a file with >, or add {options}"
+        ));
     }
     Ok(Answer::of(card))
 }
@@ -180,6 +192,26 @@ fn refused_card(refusal: Refusal, card: &[u8]) -> Answer {
     let mut answer = Answer::default().refused();
     answer.notes.push(refused::card(refusal, card));
     answer
+}
+
+fn print(args: &Args) -> Result<Answer, String> {
+    let folder = args.path("SITE")?;
+    let card = match Site::open(folder).and_then(|site| site.card()) {
+        Ok(card) => card,
+        Err(why) => return Ok(unreadable(why)),
+    };
+    match clean(&card) {
+        Ok(clean) => put_out(clean, args.has("--hex"), "--hex"),
+        Err(refusal) => Ok(refused_card(refusal, &card)),
+    }
+}
+
+/// The clean card of the network on `card`.
+fn clean(card: &[u8]) -> Result<Vec<u8>, Refusal> {
+    let mut lent = vec![0; CLEAN_CARD_LIMIT];
+    let bytes = agreement::print_card(card, &mut lent)?;
+    lent.truncate(bytes);
+    Ok(lent)
 }
 
 fn chart_of(site: Site) -> Result<Answer, Unreadable> {

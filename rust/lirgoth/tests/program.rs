@@ -1,6 +1,6 @@
 //! The program as an installer runs it: what it prints, and its status.
 
-use generate::{complete_card, Rng};
+use generate::{complete_card, network_card, with_twins, Rng};
 use std::fs;
 use std::path::{Path, PathBuf};
 use std::process::{Command, Output};
@@ -118,6 +118,102 @@ fn twin_cables_are_one_link_and_are_told() {
     let hex = out(&["card", "--hex", &folder.shown("desk.chart")], ANSWERED);
     let given = |link: &str| hex.lines().filter(|line| *line == link).count();
     assert_eq!([given("02 01 00"), given("02 00 01")], [1, 1], "{hex}");
+}
+
+/// What `print` writes for this card, without --hex and with it.
+fn printed(card: &[u8]) -> (Vec<u8>, String) {
+    let site = Folder::with(&[("network.card", card)]);
+    let own = site.0.display().to_string();
+    let Output { status, stdout, .. } = lirgoth(&["print", &own]);
+    assert_eq!(status.code(), Some(ANSWERED));
+    (stdout, out(&["print", "--hex", &own], ANSWERED))
+}
+
+#[test]
+fn a_card_is_printed_clean() {
+    let clean = [1, 4, 1, 2, 0, 3, 2, 1, 0, 2, 1, 2, 2, 3, 0, 3];
+    let hex = "01 04 01\n02 00 03\n02 01 00\n02 01 02\n02 03 00\n03\n";
+    // In order, in another order, and with links given again.
+    for links in [
+        &[[2, 0, 3], [2, 1, 0], [2, 1, 2], [2, 3, 0]][..],
+        &[[2, 3, 0], [2, 1, 2], [2, 0, 3], [2, 1, 0]],
+        &[
+            [2, 1, 2],
+            [2, 1, 2],
+            [2, 3, 0],
+            [2, 1, 0],
+            [2, 0, 3],
+            [2, 1, 2],
+        ],
+    ] {
+        let card = [&[1, 4, 1][..], &links.concat(), &[3]].concat();
+        assert_eq!(printed(&card), (clean.to_vec(), hex.to_string()));
+    }
+    let without_links = (vec![1, 2, 0, 3], "01 02 00\n03\n".to_string());
+    assert_eq!(printed(&[1, 2, 0, 3]), without_links);
+    let longest = complete_card(8, 2);
+    assert_eq!(printed(&longest).0, longest);
+}
+
+#[test]
+fn a_printed_card_is_of_the_same_site() {
+    let mut rng = Rng::new(2);
+    for (n, f) in [(2, 0), (5, 1), (8, 2)] {
+        let card = network_card(&mut rng, n, f);
+        let card = with_twins(&mut rng, &card);
+        let (clean, _) = printed(&card);
+        assert_eq!(agreement::read_card(&clean), agreement::read_card(&card));
+        assert_eq!(printed(&clean).0, clean);
+        let [before, after] = [&card, &clean].map(|card| {
+            let site = Folder::with(&[("network.card", card)]);
+            out(&["chart", &site.shown("")], ANSWERED)
+        });
+        assert_eq!(after, before);
+    }
+    // The chart of a card makes the clean card too.
+    let site = copy_of("dry-bulk");
+    let chart = out(&["chart", &site.shown("")], ANSWERED);
+    fs::write(site.path("network.chart"), chart).expect("the folder can be written to");
+    let card = lirgoth(&["card", &site.shown("network.chart")]).stdout;
+    assert_eq!(lirgoth(&["print", &site.shown("")]).stdout, card);
+}
+
+#[test]
+fn a_card_that_cannot_be_read_is_not_printed() {
+    for (card, words) in [
+        (
+            &[1; 1_025][..],
+            "1 at byte 0: 1,025 bytes, and a card has at most 1,024",
+        ),
+        (
+            &[1, 2, 0, 2, 0, 1],
+            "2 at byte 6: the card ends here, and a command is due",
+        ),
+        (
+            &[1, 2, 0, 3, 3],
+            "3 at byte 4: a byte follows the end command",
+        ),
+        (
+            &[3],
+            "4 at byte 0: a card begins with 01, and this one with 03",
+        ),
+        (
+            &[1, 2, 0, 2, 0, 2, 3],
+            "5 at byte 3: link 0 → 2: there is no office 2, offices are 0 to 1",
+        ),
+    ] {
+        let site = Folder::with(&[("network.card", card)]);
+        for args in [
+            &["print", &site.shown("")][..],
+            &["print", &site.shown(""), "--hex"],
+        ] {
+            let (printed, error) = said(args, REFUSED);
+            assert_eq!(
+                (printed, error),
+                (String::new(), format!("lirgoth: refused card {words}\n"))
+            );
+        }
+    }
 }
 
 #[test]
@@ -426,7 +522,7 @@ fn a_refused_call_is_told_in_words() {
 fn files_that_cannot_be_read_are_named() {
     let folder = Folder::new();
     let own = folder.0.display().to_string();
-    for verb in ["explain", "chart", "picture"] {
+    for verb in ["explain", "chart", "print", "picture"] {
         let (_, error) = said(&[verb, &own], UNUSABLE);
         assert_eq!(error, format!("lirgoth: {own}/network.card is missing\n"));
         let nowhere = folder.shown("nowhere");
@@ -457,6 +553,7 @@ fn a_refused_card_is_told_by_every_verb() {
     for args in [
         &["explain", &own][..],
         &["chart", &own],
+        &["print", &own],
         &["picture", &own],
         &["drill", &own, "--every"],
     ] {
@@ -482,7 +579,7 @@ fn a_chart_of_another_network_gives_no_names() {
 #[test]
 fn help_and_bad_usage() {
     let help = out(&["--help"], ANSWERED);
-    for verb in ["card", "chart", "explain", "drill", "picture"] {
+    for verb in ["card", "chart", "print", "explain", "drill", "picture"] {
         assert!(help.contains(&format!("  lirgoth {verb} ")), "{verb}");
         let own = out(&[verb, "--help"], ANSWERED);
         assert!(own.starts_with(&format!("lirgoth {verb} ")), "{own}");

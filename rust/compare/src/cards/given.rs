@@ -4,7 +4,7 @@ use super::answers::Answers;
 use super::tally::Tally;
 use crate::text::{cases, hex, unhex};
 
-const CARDS: &str = include_str!("../../data/cards.tsv");
+pub(crate) const CARDS: &str = include_str!("../../data/cards.tsv");
 
 /// What stands for an answer that is not stated.
 const NOT_STATED: &str = "-";

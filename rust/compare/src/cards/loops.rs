@@ -8,7 +8,7 @@ use generate::{
 use std::ops::Range;
 
 /// Every n and f that a card may have.
-fn sizes() -> impl Iterator<Item = (u8, u8)> {
+pub(crate) fn sizes() -> impl Iterator<Item = (u8, u8)> {
     (2..=8).flat_map(|n| (0..=2).map(move |f| (n, f)))
 }
 
@@ -25,16 +25,23 @@ pub fn random_cards(seeds: Range<u64>) -> Tally {
 /// Every network of two to four servers, with every f.
 pub fn every_small_network() -> Tally {
     let mut tally = Tally::default();
-    for (n, f) in sizes().filter(|&(n, _)| n <= 4) {
-        let all = all_links(n);
-        for chosen in 0..1u32 << all.len() {
-            let places = (0..all.len()).filter(|place| chosen >> place & 1 == 1);
-            let links: Vec<(u8, u8)> = places.map(|place| all[place]).collect();
-            let card = card_of(n, f, &links);
-            tally.compare(&card, format_args!("every network of {n} servers, f {f}"));
-        }
+    for (n, f, card) in small_networks() {
+        tally.compare(&card, format_args!("every network of {n} servers, f {f}"));
     }
     tally
+}
+
+/// Their n, f and cards, the links ascending.
+pub(crate) fn small_networks() -> impl Iterator<Item = (u8, u8, Vec<u8>)> {
+    let small = sizes().filter(|&(n, _)| n <= 4);
+    small.flat_map(|(n, f)| {
+        let all = all_links(n);
+        (0..1u32 << all.len()).map(move |chosen| {
+            let places = (0..all.len()).filter(|place| chosen >> place & 1 == 1);
+            let links: Vec<(u8, u8)> = places.map(|place| all[place]).collect();
+            (n, f, card_of(n, f, &links))
+        })
+    })
 }
 
 /// For every n and f and every number of links there can be, random networks with
@@ -73,7 +80,7 @@ pub fn twin_cables(seeds: Range<u64>) -> Tally {
 }
 
 /// For every n and f the complete network and a few random ones.
-fn sound_cards() -> Vec<Vec<u8>> {
+pub(crate) fn sound_cards() -> Vec<Vec<u8>> {
     let mut rng = Rng::new(1);
     let mut cards = Vec::new();
     for (n, f) in sizes() {
@@ -133,8 +140,25 @@ pub const CARDS_OF_A_LENGTH: usize = 13;
 /// random bytes.
 pub fn any_lengths(lengths: Range<usize>) -> Tally {
     let mut tally = Tally::default();
-    let longest = lengths.end;
-    let mut fillings = vec![
+    let fillings = fillings(lengths.end);
+    for length in lengths {
+        for (number, filling) in fillings.iter().enumerate() {
+            tally.compare(
+                &filling[..length],
+                format_args!("filling {number} of any_lengths, length {length}"),
+            );
+        }
+    }
+    tally
+}
+
+/// The longest of these cards: the others are their beginnings.
+pub(crate) fn fillings(longest: usize) -> [Vec<u8>; CARDS_OF_A_LENGTH] {
+    let random = |seed| {
+        let mut rng = Rng::new(seed);
+        (0..longest).map(|_| rng.next() as u8).collect()
+    };
+    [
         // One card after the other.
         repeated(&[], &complete_card(8, 2), longest),
         repeated(&[], &[1, 2, 0, 2, 0, 1, 3], longest),
@@ -146,19 +170,10 @@ pub fn any_lengths(lengths: Range<usize>) -> Tally {
         repeated(&[], &[2], longest),
         repeated(&[], &[3], longest),
         repeated(&[1, 2, 0], &[3], longest),
-    ];
-    for seed in 0..5 {
-        let mut rng = Rng::new(seed);
-        fillings.push((0..longest).map(|_| rng.next() as u8).collect());
-    }
-    assert_eq!(fillings.len(), CARDS_OF_A_LENGTH);
-    for length in lengths {
-        for (number, filling) in fillings.iter().enumerate() {
-            tally.compare(
-                &filling[..length],
-                format_args!("filling {number} of any_lengths, length {length}"),
-            );
-        }
-    }
-    tally
+        random(0),
+        random(1),
+        random(2),
+        random(3),
+        random(4),
+    ]
 }

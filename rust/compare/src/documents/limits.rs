@@ -1,5 +1,6 @@
 //! The limits: those of docs/FORMATS.md, and the header's.
 
+use super::clean::CLEAN_LIMIT;
 use super::commands::route_operand;
 use super::header;
 use super::library::*;
@@ -100,11 +101,13 @@ pub fn in_header(documents: &Documents) -> Held {
     page.says_all(&[
         format!("n from {n}; f, from {f}, bounds how many are faulty"),
         format!("card or plan over its length ({card} and {plan} bytes), place 0"),
-        format!("a buffer of so many bytes is never refused {buffer}."),
+        format!("agreement_run never refuses a buffer of so many bytes {buffer}."),
+        format!("agreement_print_card never refuses a buffer of so many bytes {buffer}."),
         format!("longer ones are refused {length}."),
     ])?;
     for (name, value) in [
         ("AGREEMENT_SERVERS", usize::from(n.most())),
+        ("AGREEMENT_CLEAN_CARD_LIMIT", *CLEAN_LIMIT),
         ("AGREEMENT_CARD_LIMIT", *CARD_LIMIT),
         ("AGREEMENT_PLAN_LIMIT", *PLAN_LIMIT),
     ] {

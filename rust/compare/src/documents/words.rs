@@ -10,12 +10,14 @@ use super::numbers::word;
 use super::page::{Held, Page};
 use super::runs::FAULTY;
 use super::Documents;
+use agreement::CallGround;
 
 /// What the wrapper declares, and calls.
 const DECLARED: &str = include_str!("../../../agreement/src/library.rs");
 
-const FUNCTIONS: [&str; 4] = [
+const FUNCTIONS: [&str; 5] = [
     "agreement_read_card",
+    "agreement_print_card",
     "agreement_split_test",
     "agreement_check_plan",
     "agreement_run",
@@ -29,9 +31,9 @@ fn words(text: &str, function: &str, before: &str) -> Option<usize> {
 }
 
 /// The lengths of the answers, in the order of [`FUNCTIONS`].
-fn lengths(page: &Page) -> Result<[usize; 4], String> {
+fn lengths(page: &Page) -> Result<[usize; FUNCTIONS.len()], String> {
     let text = page.lines.join("\n");
-    let mut lengths = [0; 4];
+    let mut lengths = [0; FUNCTIONS.len()];
     for (length, function) in lengths.iter_mut().zip(FUNCTIONS) {
         let ours = words(DECLARED, function, "*mut [u64; ").expect("the wrapper's declaration");
         if words(&text, function, "uint64_t answer[") != Some(ours) {
@@ -46,10 +48,11 @@ fn lengths(page: &Page) -> Result<[usize; 4], String> {
 
 pub fn stated(documents: &Documents) -> Held {
     let page = &documents.header;
-    let [reader, split, check, _] = lengths(page)?;
+    let [reader, _, split, check, _] = lengths(page)?;
     let of = |which: &str| name(page, which).map(|name| name.value);
     let answered = of("AGREEMENT_ANSWERED")?;
     let (bad_split, refused) = (of("AGREEMENT_BAD_SPLIT")?, of("AGREEMENT_REFUSED")?);
+    let buffer = CallGround::Buffer.number();
     let servers = usize::from(SIZES.n.most());
     let (eight, before_rows) = (word(servers), reader - servers);
     let zeros = vec!["0"; split - 1].join(", ");
@@ -60,6 +63,11 @@ pub fn stated(documents: &Documents) -> Held {
         format!("Row u, the word answer[{before_rows} + u],"),
         "and it is 0 where u is no server.".to_string(),
         format!("Or answer: {refused}, AGREEMENT_CARD, number, place and {eight} zeros."),
+        format!("answer: {answered}, bytes, 0, 0. Then the first `bytes` bytes of `lent` are"),
+        format!(
+            "Or answer: {refused}, what is at fault, number, place: the card's refusal, or {buffer} \
+             where `lent` is shorter than the clean card."
+        ),
         format!("answer: {answered}, {zeros} if they can"),
         format!("; {bad_split}, F, L, C, R, the first split that breaks it"),
         format!("or {refused}, AGREEMENT_CARD, number, place, 0."),

@@ -4,7 +4,7 @@ use super::tally::{plain, Answer, Tally};
 use crate::converted;
 use crate::text::{cases, hex, hex_beginning, unhex};
 
-const PLANS: &str = include_str!("../../data/plans.tsv");
+pub(crate) const PLANS: &str = include_str!("../../data/plans.tsv");
 
 /// One line of the file.
 struct Case {

@@ -3,7 +3,7 @@
 use super::tally::{Call, Outcome, Tally};
 use crate::text::{cases, unhex};
 
-const RUNS: &str = include_str!("../../data/runs.tsv");
+pub(crate) const RUNS: &str = include_str!("../../data/runs.tsv");
 
 /// What stands for the plan of the case before.
 const SAME_PLAN: &str = "=";
