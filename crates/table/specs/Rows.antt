@@ -5,11 +5,13 @@ use mathlib.Core.Path.{_≡_}
 use mathlib.Core.List.{List, [], _∷_, _++_, map, List·Memᴰ}
 use Prim.Native.Nat.{ℕ, _<_}
 use Prim.Native.String.{String}
+use lib.ListN.{replicate}
 use Rattle.refusal.specs.Refused.{Refused, card, plan, call}
 use Rattle.sets.specs.Sets.{size}
 use Rattle.network.specs.Links.{Links}
 use Rattle.network.specs.Card.{network, Head, head, turned, headOf, readCard}
 use Rattle.network.specs.Split.{Split, good, bad, unread, splitTest}
+use Rattle.network.specs.Print.{Print, wrote, unwritten, printInto, printedIn}
 use Rattle.plan.specs.Check
 use Rattle.rules.specs.Blocks.{Carriage, Block, carriageOf, decodePlan}
 use Rattle.rules.specs.Theorems.{Accepted}
@@ -27,6 +29,11 @@ abbrev pub headValues : Head → List ℕ
 headValues (head n f) = 1 ∷ n ∷ f ∷ []
 headValues (turned r) = 0 ∷ refusedValues r
 
+-- 1 and the number of bytes; or 0 and the refusal
+abbrev pub printValues : Print → List ℕ
+printValues (wrote bytes) = 1 ∷ bytes ∷ []
+printValues (unwritten r) = 0 ∷ refusedValues r
+
 -- 1 for "none"; 2 and F, L, C, R; or 0 and the refusal
 abbrev pub splitValues : Split → List ℕ
 splitValues good = 1 ∷ []
@@ -41,15 +48,17 @@ totalsValues (Check.turned r) = 0 ∷ refusedValues r
 -- a call of the library, or of one step
 pub data Call : Type 0 where
   reads : (card : List ℕ) → Call
+  prints : (card lent : List ℕ) → Call
   splits : (card : List ℕ) → Call
   checks : (card plan : List ℕ) → Call
   runs : (card plan inputs : List ℕ) → (faulty : ℕ) → (table lent : List ℕ) → Call
   gathers : (faulty : ℕ) → (table : List ℕ) → (carriages : List Carriage) → (receivers : ℕ) → (t : List ℕ) → Call
   compares : (faulty : ℕ) → (table : List ℕ) → (carriages : List Carriage) → (quorum : ℕ) → (t : List ℕ) → Call
 
--- what it gives by the definitions; a run gives the lent bytes too
+-- what it gives by the definitions; a card that is printed and a run give the lent bytes too
 abbrev pub given : Call → List ℕ
 given (reads s) = headValues (headOf (readCard s))
+given (prints s lent) = printValues (printInto s lent) ++ printedIn s lent
 given (splits s) = splitValues (splitTest s)
 given (checks s p) = totalsValues (Check.checkPlan s p)
 given (runs s p inputs faulty table lent) = totalsValues (runPlan s p inputs faulty lent) ++ lentAfter s p inputs faulty table lent
@@ -175,6 +184,12 @@ table =
     (reads (0x01 ∷ 0x02 ∷ 0x00 ∷ 0x02 ∷ 0x00 ∷ 0x01 ∷ 0x02 ∷ 0x00 ∷ 0x00 ∷ 0x03 ∷ [])) (0 ∷ 0 ∷ 5 ∷ 6 ∷ [])
     ∷ row "two routes of 13 over twin cables begin at one server: 10 at the later one"
     (checks P4-twins (opening 0x00 0x01 0x01 ++ direct 0x13 ((0, 1) ∷ (0, 1) ∷ []))) (0 ∷ 1 ∷ 10 ∷ 13 ∷ [])
+    ∷ row "a card with its links in another order, one of them twice, is printed clean, and later bytes are untouched"
+    (prints (0x01 ∷ 0x03 ∷ 0x01 ∷ (linksFrom 2 (1 ∷ []) ++ linksFrom 0 (2 ∷ 1 ∷ 2 ∷ []) ++ 0x03 ∷ [])) (replicate 14 9))
+    (1 ∷ 13 ∷ 0x01 ∷ 0x03 ∷ 0x01 ∷ (linksFrom 0 (1 ∷ 2 ∷ []) ++ linksFrom 2 (1 ∷ []) ++ 0x03 ∷ 9 ∷ []))
+    ∷ row "P4 is printed as it stands" (prints P4-card (replicate 40 9)) (1 ∷ 40 ∷ P4-card)
+    ∷ row "one byte lent less than the card has is 14, and changes none" (prints P2-card (9 ∷ 9 ∷ 9 ∷ [])) (0 ∷ 2 ∷ 14 ∷ 9 ∷ 9 ∷ 9 ∷ [])
+    ∷ row "a card that is refused comes before a short buffer" (prints (0x03 ∷ []) (9 ∷ [])) (0 ∷ 0 ∷ 4 ∷ 0 ∷ 9 ∷ [])
     ∷ row "n 8 is read" (reads (0x01 ∷ 0x08 ∷ 0x00 ∷ 0x03 ∷ [])) (1 ∷ 8 ∷ 0 ∷ [])
     ∷ row "n 9 is refused 5" (reads (0x01 ∷ 0x09 ∷ 0x00 ∷ 0x03 ∷ [])) (0 ∷ 0 ∷ 5 ∷ 0 ∷ [])
     ∷ row "f 2 is read" (reads (0x01 ∷ 0x08 ∷ 0x02 ∷ 0x03 ∷ [])) (1 ∷ 8 ∷ 2 ∷ [])
