@@ -1,6 +1,8 @@
-//! The clean card, as the header tells of it, beside what the library prints.
+//! The clean card, as header and docs/FORMATS.md tell of it, beside what the library
+//! prints.
 
 use super::library::*;
+use super::numbers::{grouped, quoted};
 use super::page::Held;
 use super::Documents;
 use agreement::{print_card, CallGround, Refusal, CLEAN_CARD_LIMIT};
@@ -27,19 +29,54 @@ fn lengths() -> (usize, usize) {
     (without, with_one - without)
 }
 
-/// What stands above the header's declaration of agreement_print_card.
-pub fn stated(documents: &Documents) -> Held {
-    // Of two links the second is given first, and again.
+/// A clean card of two links, of which the second is given first, and again.
+struct Commands {
+    head: u8,
+    link: u8,
+    end: u8,
+}
+
+fn commands() -> Commands {
     let printed = clean(&card_of(3, 1, &[(2, 0), (0, 1), (2, 0)]));
     let [head, 3, 1, link, 0, 1, again, 2, 0, end] = printed[..] else {
         panic!("a clean card of two links is {printed:02x?}");
     };
     assert_eq!(link, again, "the command of each link");
+    Commands { head, link, end }
+}
+
+/// What stands above the header's declaration of agreement_print_card, in the section of
+/// the clean card, and in its theorems.
+pub fn stated(documents: &Documents) -> Held {
+    let Commands { head, link, end } = commands();
     let (without, of_a_link) = lengths();
     documents.header.says(&format!(
         "clean: {head:02X} n f, then {link:02X} u v for each link, once, ascending by u, then by v, \
          then {end:02X}. That is {without} bytes and {of_a_link} for each link."
-    ))
+    ))?;
+    let [head, link, end] = [head, link, end].map(|command| quoted(&[command]));
+    let (buffer, limit) = (CallGround::Buffer.number(), grouped(*CARD_LIMIT));
+    documents.theorems.says_all(&[
+        format!("the card printed back: the number of bytes, or the refusal, the card's, then {buffer};"),
+        format!("exactly when it is {head} n f, any list of links"),
+        format!("between two different servers, {end}, at most {limit} bytes,"),
+        format!("no printed card has more than {} bytes", *CLEAN_LIMIT),
+    ])?;
+    // Three links: the last is given first, and again, and the other two stand the other way.
+    let patched = card_of(3, 1, &[(2, 1), (0, 2), (0, 1), (2, 1)]);
+    let printed = quoted(&clean(&patched));
+    let patched = quoted(&patched);
+    documents.formats.says_all(&[
+        format!(
+            "printed back clean: {head} n f, then {link} u v for each link, once, ascending by u, then \
+             by v, and then {end}. That is {without} bytes and {of_a_link} for each link."
+        ),
+        format!("and then {buffer} where the buffer is shorter than the clean card."),
+        format!(
+            "The card {patched} gives the link from 2 to 1 first, and again, and has the two links from \
+             0 in another order. Printed it is {printed}."
+        ),
+    ])
 }
 
 /// A clean card has as many bytes as its links give it. A buffer is refused where it has

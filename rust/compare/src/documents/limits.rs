@@ -36,7 +36,11 @@ pub fn stated(documents: &Documents) -> Held {
         format!("how many there are, {n}, or their names"),
         format!("`may fail` is f, {f}."),
         format!("`rehearse` lends {} and never meets this.", word(LENT)),
-        format!("`AGREEMENT_SERVERS` bytes, which is {servers} and always enough."),
+        format!("`AGREEMENT_SERVERS` bytes, which is {servers} and always enough,"),
+        format!(
+            "printed `AGREEMENT_CLEAN_CARD_LIMIT`, which is {}.",
+            *CLEAN_LIMIT
+        ),
         format!("A route operand is {operand} bytes: source first"),
         format!("then {fill} up to the {eighth} byte, the fill."),
         format!("{} servers have no fill.", capital(word(operand))),
@@ -51,6 +55,10 @@ fn rows() -> Vec<Vec<String>> {
     let (operand, servers) = (route_operand(), &*ROUTE_SERVERS);
     let route = format!("{operand} bytes: {servers} servers, then fill");
     let [card, plan, file] = [*CARD_LIMIT, *PLAN_LIMIT, FILE_LIMIT].map(at_most);
+    let clean = format!(
+        "at least the bytes of the clean card; {} are always enough",
+        *CLEAN_LIMIT
+    );
     let rows = [
         ["servers n; servers that may fail, f", &sizes],
         ["card", &card],
@@ -61,7 +69,8 @@ fn rows() -> Vec<Vec<String>> {
         ["inputs", "n bytes, each `00` or `01`"],
         ["faulty set of a call", "at most f servers, all of V"],
         ["message table", "any number of bytes, or none"],
-        ["lent buffer", "at least n bytes"],
+        ["lent buffer of a run", "at least n bytes"],
+        ["lent buffer to print a card", &clean],
     ];
     rows.map(|row| row.map(str::to_string).to_vec()).to_vec()
 }
