@@ -1,6 +1,7 @@
 //! The cards to be timed: all of eight servers and two faults, the largest networks
 //! there are.
 
+use agreement::CLEAN_CARD_LIMIT;
 use compare::converted;
 use generate::{all_links, card_of, complete_card, MOST_LINKS};
 use reference::{Refusal, Split};
@@ -24,6 +25,15 @@ impl Case {
         assert_eq!(library, self.split, "library on {}", self.name);
         let reference = reference::split_test(&self.card);
         assert_eq!(reference, self.split, "reference on {}", self.name);
+        let [mut ours, mut theirs] = [[0; CLEAN_CARD_LIMIT]; 2];
+        let library = agreement::print_card(&self.card, &mut ours).map_err(converted::refusal);
+        let reference = reference::print_card(&self.card, &mut theirs);
+        assert_eq!(
+            (library, ours),
+            (reference, theirs),
+            "printing {}",
+            self.name
+        );
     }
 }
 

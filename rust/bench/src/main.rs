@@ -16,6 +16,7 @@ mod clock;
 mod plans;
 mod runs;
 
+use agreement::CLEAN_CARD_LIMIT;
 use clock::{nanoseconds_per_call, ROUNDS};
 use std::hint::black_box;
 use std::process;
@@ -28,7 +29,7 @@ fn main() {
     println!("Times in nanoseconds per call, the median of {ROUNDS} rounds by turns; the ratio is");
     println!("the median of the rounds' ratios, so the two times need not divide to it exactly.");
     println!("Library and reference are both built for release, in one process, on one input;");
-    println!("a call leaves nothing behind, and each run gets a fresh buffer of eight bytes.");
+    println!("a call leaves nothing behind, and each that writes gets a fresh buffer.");
     let cases = cards::cases();
     for case in &cases {
         case.assert_answers();
@@ -62,6 +63,17 @@ fn main() {
         );
     }
     println!();
+    // Both read the card first and write into a fresh buffer that is long enough; the
+    // reference makes the clean card in memory of its own before.
+    heading("card printed back");
+    for case in &cases {
+        row(
+            case.name,
+            || printed(black_box(&case.card), agreement::print_card),
+            || printed(black_box(&case.card), reference::print_card),
+        );
+    }
+    println!();
     heading("plan check");
     for case in &plans {
         row(
@@ -80,6 +92,12 @@ fn main() {
             || black_box(case).reference(),
         );
     }
+}
+
+/// The card printed into a fresh buffer that has room for every clean card.
+fn printed<A>(card: &[u8], print: impl Fn(&[u8], &mut [u8]) -> A) -> (A, [u8; CLEAN_CARD_LIMIT]) {
+    let mut lent = [0; CLEAN_CARD_LIMIT];
+    (print(card, &mut lent), lent)
 }
 
 fn heading(function: &str) {
