@@ -315,6 +315,7 @@ fn mistakes_in_a_chart_are_named_by_their_lines() {
 fn the_example_sites_in_words() {
     for (site, status) in [
         ("dry-bulk", ANSWERED),
+        ("patched", ANSWERED),
         ("ship", ANSWERED),
         ("small", ANSWERED),
         ("tanker", REFUSED),
@@ -336,6 +337,12 @@ fn the_example_sites_in_words() {
         assert_eq!(
             out(&["picture", &folder], status),
             expected.expect("a stored picture"),
+            "{site}"
+        );
+        let expected = fs::read_to_string(format!("{folder}/expected/print.txt"));
+        assert_eq!(
+            out(&["print", "--hex", &folder], ANSWERED),
+            expected.expect("a stored card"),
             "{site}"
         );
     }
