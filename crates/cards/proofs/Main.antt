@@ -1,16 +1,17 @@
 -- What a user relies on: a link given again is one link; a card is read as what it says; and its printed card is clean.
---     again          a link command given again, anywhere after the first, changes nothing but the places behind it
---     set-alone      what a whole card gives depends on n, f and the set of its links alone, but for the place of a refusal
---     seen-once      printed card, split test, plan check and run tell such cards that are read from each other in nothing
---     read-as-said   a card is read as n, f and links exactly when it is 01 n f, links between servers of n, 03, in 1,024 bytes, with these marks
---     prints-clean   what is printed is that card of the network whose links ascend by u, then by v, and there is one only
---     reads-back     reading the printed card gives the same network
---     prints-again   printing from the printed card gives the same bytes
---     prints-short   172 bytes are enough for every printed card
+--     again            a link command given again, anywhere after the first, changes nothing but the places behind it
+--     set-alone        what a whole card gives depends on n, f and the set of its links alone, but for the place of a refusal
+--     seen-once        printed card, split test, plan check and run tell such cards that are read from each other in nothing
+--     read-as-said     a card is read as n, f and links exactly when it is 01 n f, links between servers of n, 03, in 1,024 bytes, with these marks
+--     prints-clean     what is printed is that card of the network whose links ascend by u, then by v, and there is one only
+--     reads-back       reading the printed card gives the same network
+--     prints-again     printing from the printed card gives the same bytes
+--     prints-short     172 bytes are enough for every printed card
+--     prints-in-front  it stands in the first lent bytes, and no other byte is changed; refused, none is
 -- Assumes nothing.
 use Rattle.cards.specs.Twins.{Again, SetAlone, SeenOnce}
 use Rattle.cards.specs.Said.{ReadAsSaid}
-use Rattle.cards.specs.Clean.{PrintsClean, ReadsBack, PrintsAgain, PrintsShort}
+use Rattle.cards.specs.Clean.{PrintsClean, ReadsBack, PrintsAgain, PrintsShort, PrintsInFront}
 use Rattle.cards.proofs.Repeats.{card-again}
 use Rattle.cards.proofs.Whole.{whole-same}
 use Rattle.cards.proofs.Seen.{seen-alike}
@@ -40,3 +41,6 @@ prints-again = Printed.prints-again
 
 pub prints-short : PrintsShort
 prints-short = Printed.prints-short
+
+pub prints-in-front : PrintsInFront
+prints-in-front = Printed.prints-in-front

@@ -5,16 +5,19 @@ use mathlib.Core.Bool.{true}
 use mathlib.Core.List.{List, [], _∷_, List·Memᴰ}
 use Prim.Native.Nat.{ℕ, _+_, _*_, _≤_, _<_}
 use native.Mathlib.Omega.{arith}
-use lib.ListN.{length}
-use Rattle.network.specs.Links.{Links, linkedIn}
+use lib.ListN.{length, take, drop}
+use lib.Seq.{take-at, drop-at}
+use lib.Dec.{ltb}
+use Rattle.facts.proofs.Bools.{cases}
+use Rattle.network.specs.Links.{Links}
 use Rattle.network.specs.Card.{Network, network, refused, readCard}
-use Rattle.network.specs.Print.{Link, linkBytes, cardBytes, wholeCard, ascending, printCard, cleanOf, cleanCard, printInto, printedIn}
+use Rattle.network.specs.Print.{Link, wholeCard, ascending, printCard, cleanOf, cleanCard, wrote, unwritten, fitting, printOf, printInto, afterPrint, printedIn}
 use Rattle.network.specs.Proper.{Proper}
 use Rattle.network.proofs.Networks.{card-proper}
 use Rattle.network.proofs.CleanCard.{clean-long}
 use Rattle.cards.specs.Twins.{SameLinks}
 use Rattle.cards.specs.Said.{Marks, Says}
-use Rattle.cards.specs.Clean.{Clean, PrintsClean, ReadsBack, PrintedAlike, PrintsAgain, PrintsShort}
+use Rattle.cards.specs.Clean.{Clean, PrintsClean, ReadsBack, PrintedAlike, PrintsAgain, PrintsShort, PrintsInFront}
 use Rattle.cards.proofs.Ordered.{pairs-all, pairs-only, pairs-ascend, pairs-few, bytes-three, order-one}
 use Rattle.cards.proofs.Said.{read-as-said}
 
@@ -91,3 +94,19 @@ clean-short s (refused r) e = omega arith
 pub prints-short : PrintsShort
 unfolding cleanCard
 prints-short s = let h = clean-short s (readCard s) refl in omega arith
+
+-- as many bytes are said to be written as the clean card has
+wrote-all : (a : Network) (lent : List ℕ) (bytes : ℕ) → printOf a lent ≡ wrote bytes → length (cleanOf a) ≡ bytes
+unfolding fitting
+wrote-all (network n f links) lent bytes e =
+    cases (ltb (length lent) (length (printCard n f links)))
+    (λ q. let w = rw q at e in cc)
+    (λ q. let w = rw q at e in cc)
+wrote-all (refused r) lent bytes e = cc
+
+pub prints-in-front : PrintsInFront
+unfolding cleanCard printInto printedIn
+prints-in-front s lent = (
+  λ bytes e. let l = wrote-all (readCard s) lent bytes e in rw e (take-at (cleanOf (readCard s)) (drop bytes lent) bytes l, drop-at (cleanOf (readCard s)) (drop bytes lent) bytes l),
+  λ r e. rw e refl,
+)

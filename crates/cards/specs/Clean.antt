@@ -6,15 +6,18 @@
 --     ReadsBack            <-> reading the printed card gives the same network
 --     PrintsAgain          <-> printing from the printed card gives the same bytes, in every lent buffer
 --     PrintsShort          <-> no printed card has more than 172 bytes
+--     PrintsInFront        <-> the card stands in the first of the lent bytes, as many as the answer says, and the later ones are as they were; refused,
+--                              all are
 use mathlib.Core.Path.{_≡_}
 use mathlib.Core.Logic.{_⊎_}
 use mathlib.Core.List.{List, [], _∷_}
 use Prim.Native.Nat.{ℕ, _≤_, _<_}
-use lib.ListN.{length}
+use lib.ListN.{length, take, drop}
 use Rattle.facts.specs.Lists.{Each}
+use Rattle.refusal.specs.Refused.{Refused}
 use Rattle.network.specs.Links.{Links}
 use Rattle.network.specs.Card.{network, readCard}
-use Rattle.network.specs.Print.{Link, printCard, cleanCard, printInto, printedIn}
+use Rattle.network.specs.Print.{Link, printCard, cleanCard, wrote, unwritten, printInto, printedIn}
 use Rattle.cards.specs.Said.{Says}
 
 abbrev pub Before : Link → Link → Type 0
@@ -47,3 +50,9 @@ PrintsAgain = (s : List ℕ) (n f : ℕ) (links : Links) → readCard s ≡ netw
 
 abbrev pub PrintsShort : Type 0
 PrintsShort = (s : List ℕ) → length (cleanCard s) ≤ 172
+
+abbrev pub PrintsInFront : Type 0
+PrintsInFront =
+    (s lent : List ℕ)
+    → ((bytes : ℕ) → printInto s lent ≡ wrote bytes → (take bytes (printedIn s lent) ≡ cleanCard s) × (drop bytes (printedIn s lent) ≡ drop bytes lent))
+    × ((r : Refused) → printInto s lent ≡ unwritten r → printedIn s lent ≡ lent)

@@ -52,7 +52,7 @@ cleanOf (refused r) = []
 unfoldable pub cleanCard : List ℕ → List ℕ
 cleanCard s = cleanOf (readCard s)
 
--- bytes laid over those from a place on
+-- bytes laid over those from a place on, for the loop that writes the links
 unfoldable pub laid : List ℕ → ℕ → List ℕ → List ℕ
 laid lent at bytes = sets lent at bytes
 
