@@ -4,11 +4,11 @@
 -- Assumes nothing.
 use mathlib.Core.Path.{_≡_, refl, sym, ap, _∙_}
 use mathlib.Core.Logic.{_⊎_, inl, inr, ⊎-elim}
-use mathlib.Core.Bool.{Bool, true, false}
+use mathlib.Core.Bool.{true, false}
 use mathlib.Core.List.{List, [], _∷_, List·Memᴰ, List·Memᴰ·head, List·Memᴰ·tail, List·Memᴰ·cases-cons}
-use Prim.Native.Nat.{ℕ, _≤_, _<_}
+use Prim.Native.Nat.{ℕ, _<_}
 use native.Mathlib.Omega.{arith}
-use lib.ListN.{length, getD, set, replicate, length-set, length-replicate, getD-replicate}
+use lib.ListN.{length, getD, set, replicate, length-set, getD-replicate}
 use lib.Seq.{getD-set-same, getD-set-other, ext-getD}
 use lib.Dec.{eqb}
 use borrow.Author.Tests.{eqb-true, eqb-false}
@@ -17,7 +17,7 @@ use Rattle.facts.proofs.Bools.{cases, clash, same}
 use Rattle.network.specs.Links.{Links, noLinks, linkedIn, withLink}
 use Rattle.network.specs.Print.{Link}
 use Rattle.network.proofs.Networks.{no-links, linked-with}
-use Rattle.cards.specs.Said.{Joins, Marks}
+use Rattle.cards.specs.Said.{Marks}
 use Rattle.cards.proofs.Marking.{marksOf}
 
 -- eight rows of eight

@@ -1,23 +1,22 @@
 -- The printed card: it says the network in ascending order, so it is read as that network, and printed again as itself.
 -- Assumes nothing.
 use mathlib.Core.Path.{_≡_, refl, sym, ap, _∙_}
-use mathlib.Core.Bool.{true}
-use mathlib.Core.List.{List, [], _∷_, List·Memᴰ}
-use Prim.Native.Nat.{ℕ, _+_, _*_, _≤_, _<_}
+use mathlib.Core.List.{List, []}
+use Prim.Native.Nat.{ℕ, _+_, _*_, _≤_}
 use native.Mathlib.Omega.{arith}
-use lib.ListN.{length, take, drop}
+use lib.ListN.{length, drop}
 use lib.Seq.{take-at, drop-at}
 use lib.Dec.{ltb}
 use Rattle.facts.proofs.Bools.{cases}
 use Rattle.network.specs.Links.{Links}
 use Rattle.network.specs.Card.{Network, network, refused, readCard}
-use Rattle.network.specs.Print.{Link, wholeCard, ascending, printCard, cleanOf, cleanCard, wrote, unwritten, fitting, printOf, printInto, afterPrint, printedIn}
+use Rattle.network.specs.Print.{Link, wholeCard, ascending, printCard, cleanOf, cleanCard, wrote, fitting, printOf, printInto, printedIn}
 use Rattle.network.specs.Proper.{Proper}
 use Rattle.network.proofs.Networks.{card-proper}
 use Rattle.network.proofs.CleanCard.{clean-long}
 use Rattle.cards.specs.Twins.{SameLinks}
 use Rattle.cards.specs.Said.{Marks, Says}
-use Rattle.cards.specs.Clean.{Clean, PrintsClean, ReadsBack, PrintedAlike, PrintsAgain, PrintsShort, PrintsInFront}
+use Rattle.cards.specs.Clean.{Clean, PrintsClean, ReadsBack, PrintsAgain, PrintsShort, PrintsInFront}
 use Rattle.cards.proofs.Ordered.{pairs-all, pairs-only, pairs-ascend, pairs-few, bytes-three, order-one}
 use Rattle.cards.proofs.Said.{read-as-said}
 

@@ -2,9 +2,9 @@
 -- (`front-said`), and a card of these is read (`Whole`). Assumes nothing.
 use mathlib.Core.Path.{_≡_, refl, sym, ap, _∙_}
 use mathlib.Core.Logic.{_⊎_, inl, inr}
-use mathlib.Core.Bool.{true, false, not, _&&_}
+use mathlib.Core.Bool.{true, false}
 use mathlib.Core.List.{List, [], _∷_, _++_}
-use Prim.Native.Nat.{ℕ, _+_, _≤_, _<_}
+use Prim.Native.Nat.{ℕ, _+_, _≤_}
 use native.Mathlib.Omega.{arith}
 use lib.ListN.{length, getD}
 use lib.Dec.{eqb, ltb}
@@ -14,7 +14,7 @@ use Rattle.facts.proofs.Bools.{cases, both, bools}
 use Rattle.refusal.specs.Refused.{Refused}
 use Rattle.network.specs.Links.{Links, noLinks, withLink}
 use Rattle.network.specs.Card.{network, refused, headFits, linkFits, readCard}
-use Rattle.network.specs.Print.{Link, linkBytes, cardBytes, wholeCard}
+use Rattle.network.specs.Print.{Link, linkBytes, cardBytes}
 use Rattle.network.specs.Places.{At}
 use Rattle.network.specs.Proper.{Proper}
 use Rattle.network.proofs.Reading.{reading-starts}

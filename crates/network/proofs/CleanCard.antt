@@ -7,7 +7,7 @@
 use mathlib.Core.Path.{_≡_, refl, sym, ap, _∙_}
 use mathlib.Core.List.{List, [], _∷_, _++_}
 use Prim.Native.Nat.{ℕ, suc, _+_, _-_, _≤_, _<_}
-use native.Mathlib.Nat.{add-zero, zero-add, suc-add, add-suc}
+use native.Mathlib.Nat.{add-zero}
 use native.Mathlib.Omega.{arith}
 use lib.ListN.{length, set, drop, length-append, length-set}
 use lib.Seq.{sets, sets-eq, length-sets}
@@ -16,7 +16,7 @@ use Rattle.refusal.specs.Refused.{refusalOf, call}
 use Rattle.refusal.specs.declared.Refusal.{Refusal}
 use Rattle.network.specs.Links.{Links}
 use Rattle.network.specs.Card.{network, readCard, head, turned, headOf, linksAfter}
-use Rattle.network.specs.Print.{linkBytes, cardBytes, ascending, printCard, cleanCard, laid, Print, wrote, unwritten, fitting, printInto, afterPrint, printedIn}
+use Rattle.network.specs.Print.{linkBytes, cardBytes, ascending, printCard, cleanCard, laid, wrote, unwritten, fitting, printInto, afterPrint, printedIn}
 use Rattle.network.specs.Answers.{printedOf, Printing}
 use Rattle.network.specs.declared.print.Printed.{Printed}
 use Rattle.network.proofs.Heads.{network-of, refused-of, links-after}

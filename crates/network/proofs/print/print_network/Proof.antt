@@ -1,8 +1,7 @@
 -- `network::print::print_network` meets its contract: what is laid into the buffer is the clean card (`CleanCard`). Assumes nothing.
-use mathlib.Core.Path.{refl, sym, ap, _∙_}
-use Prim.Native.Nat.{_-_}
+use mathlib.Core.Path.{_≡_, refl}
 use native.Mathlib.Omega.{arith}
-use lib.ListN.{length-set}
+use lib.ListN.{length, length-set}
 use borrow.Author.Needs.{needs}
 use Rattle.network.proofs.CleanCard.{clean-refused, clean-fits, laid-long, clean-written}
 use Rattle.network.proofs.print.print_network.Statement.{statement}
@@ -11,6 +10,12 @@ use Rattle.network.proofs.print.print_network.Reads as reads
 use Rattle.network.proofs.print.print_network.Lts as lts
 use Rattle.network.proofs.print.card_length.Reads as card-length-reads
 use Rattle.network.proofs.print.write_links.Reads as write-links-reads
+
+-- with head and links written the buffer is as long as it was
+still-long : (c : tie.After-slice-known2) → length (c .before .before .write-links .last .1 .0) ≡ length (c .before .before .before .before .before .before .before .args .lent .now)
+still-long c =
+    let a = c .before .before .before .before .before .before .before .args in
+    laid-long (a .lent .now) (a .n) (a .f) _ _ (c .before .before .write-links .ensures)
 
 card-length-requires : tie.Need-card-length-requires
 card-length-requires c κs = search needs
@@ -34,13 +39,15 @@ sub-last : tie.Need-sub-last
 sub-last c = search needs
 
 slice-write-lent-4 : tie.Need-slice-write-lent-4
-slice-write-lent-4 c = let a = c .before .before .before .before .before .before .before .args in omega (arith, laid-long (a .lent .now) (a .n) (a .f) _ _ (c .before .before .write-links .ensures))
+slice-write-lent-4 c = omega (arith, still-long c)
 
 same-length : tie.Need-same-length
-same-length c = let a = c .before .before .before .before .before .before .before .args in rw length-set (laid-long (a .lent .now) (a .n) (a .f) _ _ (c .before .before .write-links .ensures))
+same-length c = rw length-set (still-long c)
 
 returns-2 : tie.Need-returns-2
-returns-2 c = (clean-fits _ _ _ _ _ (c .before .before .before .before .before .card-length .ensures) (omega arith), clean-written _ _ _ _ _ (c .before .before .before .before .before .card-length .ensures) (omega arith) _ (c .before .before .write-links .ensures))
+returns-2 c =
+    let long = c .before .before .before .before .before .card-length .ensures in
+    (clean-fits _ _ _ _ _ long (omega arith), clean-written _ _ _ _ _ long (omega arith) _ (c .before .before .write-links .ensures))
 
 pub print-network-spec : {M : Type 1} → statement M
 print-network-spec =
