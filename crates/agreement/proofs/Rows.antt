@@ -14,14 +14,14 @@ use lib.ListN.{length, getD, drop, drop-of-length-le}
 use lib.Seq.{drop-cons}
 use Rattle.refusal.specs.Refused.{Refused, whoseOf, numberOf, placeOf, refusalOf}
 use Rattle.refusal.specs.declared.Refusal.{Refusal}
-use Rattle.network.specs.Card.{Network, network, refused, readCard, head, headOf, linksAfter}
+use Rattle.network.specs.Card.{network, readCard}
 use Rattle.network.specs.Links.{Links, noLinks, linkedIn}
 use Rattle.network.specs.Rows.{rowsOf}
 use Rattle.network.specs.Split.{Split, unread}
 use Rattle.network.specs.declared.card.Reading.{Reading}
 use Rattle.network.specs.declared.print.Printed.{Printed}
 use Rattle.network.specs.Answers.{readingOf, Answered, printedOf, Printing}
-use Rattle.network.proofs.Heads.{refused-of}
+use Rattle.network.proofs.Heads.{network-is, refused-of}
 use Rattle.network.proofs.LinkRows.{rows-none}
 use Rattle.run.specs.declared.call.Ran.{Ran}
 use Rattle.run.specs.Answers.{ranOf}
@@ -44,13 +44,9 @@ entries-are (suc k) i l h = let ih = entries-are k (suc i) l (omega arith) in le
 pub laid : (front rows : List ℕ) → length front ≡ 4 → length rows ≡ 8 → (all : List ℕ) → rows ≡ all → entries 4 0 front ++ entries 8 0 rows ≡ front ++ all
 laid front rows h k all e = ap₂ (λ (x y : List ℕ). x ++ y) (entries-are 4 0 front (omega arith)) (entries-are 8 0 rows (omega arith) ∙ e)
 
-network-is : (a : Network) (n f : ℕ) (lent links : Links) → head n f ≡ headOf a → links ≡ linksAfter a lent → network n f links ≡ a
-network-is (network m g own) n f lent links e q = let p : n ≡ m = cc in let o : f ≡ g = cc in cc
-network-is (refused r) n f lent links e q = cc
-
 module _ (s : List ℕ) (lent links : Links) (reading : Reading) (a : Answered s lent reading links) (words : List ℕ) where
   pub card-read : (n f : ℕ) → reading ≡ Reading.Network n f → words ≡ cardWords (network n f links) → words ≡ cardWords (readCard s)
-  card-read n f e w = w ∙ ap cardWords (network-is (readCard s) n f lent links (sym (ap readingOf e) ∙ a .reading) (a .links))
+  card-read n f e w = w ∙ ap cardWords (sym (network-is (readCard s) n f lent links (sym (a .reading) ∙ ap readingOf e) (a .links)))
 
   pub card-refused : (r : Refusal) → reading ≡ Reading.Refused r → (front : List ℕ) → front ≡ refusedWords (refusalOf r)
       → words ≡ front ++ rowsOf (linkedIn noLinks) → words ≡ cardWords (readCard s)

@@ -6,7 +6,7 @@
 -- Marked     the marks of a list of links are one for each and none beside them
 -- Said       the reader gives what the card says
 -- Ordered    the links of a network in ascending order
--- Printed    the printed card: clean, read back, and printed again
+-- Printed    the printed card: clean, read back, printed again, short and in front
 -- Seen       cards that every call sees alike
 -- Main       what a user relies on
 pub mod Marking

@@ -1,6 +1,6 @@
 -- The marks of a list of links: eight rows of eight, one for each link and none beside them; and links that are so marked are these.
---     marked-is      the marks of a list of links are its marks
---     marks-one      two sets of marks of one list are the same
+--     marked-is      links put one by one give a mark for each, and none beside them
+--     marks-one      links with the marks of one list are the same
 -- Assumes nothing.
 use mathlib.Core.Path.{_≡_, refl, sym, ap, _∙_}
 use mathlib.Core.Logic.{_⊎_, inl, inr, ⊎-elim}
@@ -13,10 +13,10 @@ use lib.Seq.{getD-set-same, getD-set-other, ext-getD}
 use lib.Dec.{eqb}
 use borrow.Author.Tests.{eqb-true, eqb-false}
 use Rattle.facts.specs.Lists.{Each}
-use Rattle.facts.proofs.Bools.{cases, clash, same}
+use Rattle.facts.proofs.Bools.{cases, same}
 use Rattle.network.specs.Links.{Links, noLinks, linkedIn, withLink}
 use Rattle.network.specs.Print.{Link}
-use Rattle.network.proofs.Networks.{no-links, linked-with}
+use Rattle.network.proofs.Networks.{none-there, linked-with}
 use Rattle.cards.specs.Said.{Marks}
 use Rattle.cards.proofs.Marking.{marksOf}
 
@@ -29,27 +29,30 @@ unfolding noLinks
 eight-none = (refl, λ u h. rw (getD-replicate 8 u (replicate 8 false) [] h) refl)
 
 module _ (links : Links) (e : Eight links) (u v : ℕ) where
-  eight-with : Eight (withLink links u v)
+  row-with : u < 8 → getD (withLink links u v) u [] ≡ set (getD links u []) v true
   unfolding withLink
+  row-with h = let l = e .0 in getD-set-same links u (set (getD links u []) v true) [] (omega arith)
+
+  row-kept : (a : ℕ) → (a ≡ u → ⊥) → getD (withLink links u v) a [] ≡ getD links a []
+  unfolding withLink
+  row-kept a o = getD-set-other links u a (set (getD links u []) v true) [] o
+
+  rows-with : length (withLink links u v) ≡ 8
+  unfolding withLink
+  rows-with = length-set links u (set (getD links u []) v true) ∙ e .0
+
+  eight-with : Eight (withLink links u v)
   eight-with = (
-    length-set links u (set (getD links u []) v true) ∙ e .0,
+    rows-with,
     λ a h. cases (eqb a u)
-        (λ q. let p = eqb-true a u q in rw p (ap length (getD-set-same links u (set (getD links u []) v true) [] (let l = e .0 in omega arith)) ∙ length-set (getD links u []) v true ∙ e .1 u (omega arith)))
-        (λ q. ap length (getD-set-other links u a (set (getD links u []) v true) [] (eqb-false a u q)) ∙ e .1 a h),
+        (λ q. let p = eqb-true a u q in rw p (ap length (row-with (omega arith)) ∙ length-set (getD links u []) v true ∙ e .1 u (omega arith)))
+        (λ q. ap length (row-kept a (eqb-false a u q)) ∙ e .1 a h),
   )
 
   module _ (hu : u < 8) (hv : v < 8) where
-    row-with : getD (withLink links u v) u [] ≡ set (getD links u []) v true
-    unfolding withLink
-    row-with = let l = e .0 in getD-set-same links u (set (getD links u []) v true) [] (omega arith)
-
     with-there : linkedIn (withLink links u v) u v ≡ true
     unfolding linkedIn
-    with-there = let l = e .1 u hu in rw row-with (getD-set-same (getD links u []) v true false (omega arith))
-
-    row-kept : (a : ℕ) → (a ≡ u → ⊥) → getD (withLink links u v) a [] ≡ getD links a []
-    unfolding withLink
-    row-kept a o = getD-set-other links u a (set (getD links u []) v true) [] o
+    with-there = let l = e .1 u hu in rw (row-with hu) (getD-set-same (getD links u []) v true false (omega arith))
 
     with-keeps : (a b : ℕ) → linkedIn links a b ≡ true → linkedIn (withLink links u v) a b ≡ true
     unfolding linkedIn
@@ -57,7 +60,7 @@ module _ (links : Links) (e : Eight links) (u v : ℕ) where
         cases (eqb a u)
         (λ w. let p = eqb-true a u w in cases (eqb b v)
         (λ x. let o = eqb-true b v x in rw (p, o) with-there)
-        (λ x. rw (p, row-with) (getD-set-other (getD links u []) v b true false (eqb-false b v x) ∙ (rw p at q))))
+        (λ x. rw (p, row-with hu) (getD-set-other (getD links u []) v b true false (eqb-false b v x) ∙ (rw p at q))))
         (λ w. rw (row-kept a (eqb-false a u w)) q)
 
 -- a list of links, put on those that are there
@@ -108,7 +111,7 @@ marked-is xs s =
     record {
       rows = e .0;
       marks = e .1;
-      only = λ u v q. ⊎-elim (λ w. clash (linkedIn noLinks u v) w (no-links u v)) (λ m. m) (marks-only xs noLinks u v q);
+      only = λ u v q. ⊎-elim (λ w. none-there u v w) (λ m. m) (marks-only xs noLinks u v q);
       all = λ u v m. marks-all xs noLinks eight-none s u v m;
     }
 

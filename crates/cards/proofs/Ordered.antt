@@ -16,7 +16,7 @@ use borrow.Author.Tests.{eqb-true, eqb-false, ltb-true, ltb-false}
 use Rattle.facts.specs.Lists.{Each}
 use Rattle.facts.proofs.Bools.{cases}
 use Rattle.network.specs.Links.{Links, linkedIn}
-use Rattle.network.specs.Print.{Link, linkBytes, linksFrom, ascending}
+use Rattle.network.specs.Print.{Link, linksAmong, ascending}
 use Rattle.cards.specs.Twins.{SameLinks}
 use Rattle.cards.specs.Clean.{Before, Ascending}
 
@@ -28,7 +28,7 @@ pair-before i j h =
     (λ e. let k = ltb-false (i / 8) (j / 8) e in inr (omega arith, omega arith))
 
 module _ (links : Links) where
-  -- a link among the k pairs from pair i on, with its pair
+  -- a link from pair i on, with its pair
   record Paired (i : ℕ) (x : Link) : Type 0 where
     pair : ℕ
     from : i ≤ pair
@@ -38,8 +38,8 @@ module _ (links : Links) where
   paired-on : (i : ℕ) (x : Link) → Paired (suc i) x → Paired i x
   paired-on i x p = let h = p .from in record { pair = p .pair; from = omega arith; is = p .is; linked = p .linked }
 
-  paired : (k i : ℕ) (x : Link) → List·Memᴰ x (linksFrom k i links) → Paired i x
-  unfolding linksFrom
+  paired : (k i : ℕ) (x : Link) → List·Memᴰ x (linksAmong k i links) → Paired i x
+  unfolding linksAmong
   paired zero i x m = elim m [ ]
   paired (suc k) i x m =
       cases (linkedIn links (i / 8) (i % 8))
@@ -49,8 +49,8 @@ module _ (links : Links) where
       (List·Memᴰ·cases-cons (rw q at m)))
       (λ q. paired-on i x (paired k (suc i) x (rw q at m)))
 
-  pair-in : (k i j : ℕ) → i ≤ j → j < i + k → linkedIn links (j / 8) (j % 8) ≡ true → List·Memᴰ (j / 8, j % 8) (linksFrom k i links)
-  unfolding linksFrom
+  pair-in : (k i j : ℕ) → i ≤ j → j < i + k → linkedIn links (j / 8) (j % 8) ≡ true → List·Memᴰ (j / 8, j % 8) (linksAmong k i links)
+  unfolding linksAmong
   pair-in zero i j h l e = absurd (omega arith)
   pair-in (suc k) i j h l e =
       cases (eqb i j)
@@ -58,12 +58,12 @@ module _ (links : Links) where
       (λ q. let z = eqb-false i j q in let later = pair-in k (suc i) j (omega arith) (omega arith) e in
       cases (linkedIn links (i / 8) (i % 8)) (λ w. rw w (List·Memᴰ·tail later)) (λ w. rw w later))
 
-  ascend-from : (k i : ℕ) → Ascending (linksFrom k i links)
-  unfolding linksFrom
+  ascend-from : (k i : ℕ) → Ascending (linksAmong k i links)
+  unfolding linksAmong
   ascend-from zero i = tt
   ascend-from (suc k) i =
       let later = ascend-from k (suc i) in
-      let before : Each (Before (i / 8, i % 8)) (linksFrom k (suc i) links) = λ y m. let p = paired k (suc i) y m in let h = p .from in rw (p .is) (pair-before i (p .pair) (omega arith)) in
+      let before : Each (Before (i / 8, i % 8)) (linksAmong k (suc i) links) = λ y m. let p = paired k (suc i) y m in let h = p .from in rw (p .is) (pair-before i (p .pair) (omega arith)) in
       cases (linkedIn links (i / 8) (i % 8)) (λ q. rw q (before, later)) (λ q. rw q later)
 
   pub pairs-ascend : Ascending (ascending links)
@@ -89,8 +89,8 @@ module _ (links : Links) where
   others (suc k) i = let later = others k (suc i) in cond (eqb (i / 8) (i % 8)) later (suc later)
 
   module _ (apart : (u v : ℕ) → linkedIn links u v ≡ true → u ≡ v → ⊥) where
-    few-from : (k i : ℕ) → length (linksFrom k i links) ≤ others k i
-    unfolding linksFrom others
+    few-from : (k i : ℕ) → length (linksAmong k i links) ≤ others k i
+    unfolding linksAmong others
     few-from zero i = omega arith
     few-from (suc k) i =
         let later = few-from k (suc i) in
@@ -102,12 +102,7 @@ module _ (links : Links) where
     unfolding ascending others
     pairs-few = few-from 64 0
 
-pub bytes-three : (xs : List Link) → length (linkBytes xs) ≡ 3 * length xs
-unfolding linkBytes
-bytes-three [] = refl
-bytes-three (x ∷ xs) = let ih = bytes-three xs in omega arith
-
--- of two different links one comes before the other, and not both
+-- of two links not each comes before the other
 not-both : {C : Type 0} (x y : Link) → Before x y → Before y x → C
 not-both x y (inl a) (inl b) = absurd (omega arith)
 not-both x y (inl a) (inr b) = absurd (omega arith)

@@ -1,5 +1,5 @@
--- The printed card: it says the network in ascending order, so it is read as that network, and printed again as itself.
--- Assumes nothing.
+-- The printed card: it says the network in ascending order, so it is read as that network, and printed again as itself; it is short, and stands in
+-- front in the lent buffer. Assumes nothing.
 use mathlib.Core.Path.{_≡_, refl, sym, ap, _∙_}
 use mathlib.Core.List.{List, []}
 use Prim.Native.Nat.{ℕ, _+_, _*_, _≤_}
@@ -7,18 +7,20 @@ use native.Mathlib.Omega.{arith}
 use lib.ListN.{length, drop}
 use lib.Seq.{take-at, drop-at}
 use lib.Dec.{ltb}
+use borrow.Author.Tests.{le-ltb}
 use Rattle.facts.proofs.Bools.{cases}
 use Rattle.network.specs.Links.{Links}
 use Rattle.network.specs.Card.{Network, network, refused, readCard}
 use Rattle.network.specs.Print.{Link, wholeCard, ascending, printCard, cleanOf, cleanCard, wrote, fitting, printOf, printInto, printedIn}
 use Rattle.network.specs.Proper.{Proper}
 use Rattle.network.proofs.Networks.{card-proper}
-use Rattle.network.proofs.CleanCard.{clean-long}
+use Rattle.network.proofs.CleanCard.{bytes-three, clean-long}
 use Rattle.cards.specs.Twins.{SameLinks}
 use Rattle.cards.specs.Said.{Marks, Says}
 use Rattle.cards.specs.Clean.{Clean, PrintsClean, ReadsBack, PrintsAgain, PrintsShort, PrintsInFront}
-use Rattle.cards.proofs.Ordered.{pairs-all, pairs-only, pairs-ascend, pairs-few, bytes-three, order-one}
+use Rattle.cards.proofs.Ordered.{pairs-all, pairs-only, pairs-ascend, pairs-few, order-one}
 use Rattle.cards.proofs.Said.{read-as-said}
+use Rattle.cards.proofs.Seen.{read-alike}
 
 -- head, end, and at most 56 links
 print-short : (n f : ℕ) (links : Links) → Proper n f links → length (printCard n f links) ≤ 4 + 3 * 56
@@ -81,18 +83,15 @@ pub reads-back : ReadsBack
 reads-back s n f links e = read-as-said (printCard n f links) n f links .1 (print-says s n f links e)
 
 pub prints-again : PrintsAgain
-unfolding cleanCard printInto printedIn
-prints-again s n f links e =
-    let same : readCard (printCard n f links) ≡ readCard s = reads-back s n f links e ∙ sym e in
-    record { clean = rw same refl; answer = λ lent. rw same refl; bytes = λ lent. rw same refl }
-
-clean-short : (s : List ℕ) (a : Network) → readCard s ≡ a → length (cleanOf a) ≤ 4 + 3 * 56
-clean-short s (network n f links) e = print-short n f links (card-proper s n f links e)
-clean-short s (refused r) e = omega arith
+unfolding cleanCard
+prints-again s n f links e = let b = reads-back s n f links e in (rw b refl, read-alike (printCard n f links) s (b ∙ sym e))
 
 pub prints-short : PrintsShort
-unfolding cleanCard
-prints-short s = let h = clean-short s (readCard s) refl in omega arith
+unfolding printInto fitting
+prints-short s n f links e lent h =
+    let l = print-short n f links (card-proper s n f links e) in
+    let fits : length (printCard n f links) ≤ length lent = omega arith in
+    rw (e, le-ltb (length lent) (length (printCard n f links)) fits) refl
 
 -- as many bytes are said to be written as the clean card has
 wrote-all : (a : Network) (lent : List ℕ) (bytes : ℕ) → printOf a lent ≡ wrote bytes → length (cleanOf a) ≡ bytes
@@ -106,6 +105,6 @@ wrote-all (refused r) lent bytes e = cc
 pub prints-in-front : PrintsInFront
 unfolding cleanCard printInto printedIn
 prints-in-front s lent = (
-  λ bytes e. let l = wrote-all (readCard s) lent bytes e in rw e (take-at (cleanOf (readCard s)) (drop bytes lent) bytes l, drop-at (cleanOf (readCard s)) (drop bytes lent) bytes l),
+  λ bytes e. let l = wrote-all (readCard s) lent bytes e in rw e (l, take-at (cleanOf (readCard s)) (drop bytes lent) bytes l, drop-at (cleanOf (readCard s)) (drop bytes lent) bytes l),
   λ r e. rw e refl,
 )

@@ -11,6 +11,7 @@ use Rattle.refusal.specs.Refused.{card}
 use Rattle.network.specs.Links.{Links, noLinks, withLink}
 use Rattle.network.specs.Card.{Network, refused, headFits, linkFits}
 use Rattle.network.specs.Print.{Link, linkBytes, cardBytes}
+use Rattle.network.proofs.CleanCard.{bytes-three}
 use Rattle.cards.specs.Twins.{behind, moved, Again}
 use Rattle.cards.proofs.Marking.{with-twice, with-swap}
 use Rattle.cards.proofs.Front.{front, front-fits, front-range, card-fits, card-range}
@@ -52,9 +53,11 @@ module _ (x : Link) (rest : List ℕ) (n f k : ℕ) where
       (λ q. kept k at _ _ (omega arith) (front-range (y .0) (y .1) more at n f links q) (front-range (y .0) (y .1) less at n f links q))
 
 bytes-more : (xs : List Link) (x : Link) → length (linkBytes (xs ++ x ∷ [])) ≡ length (linkBytes xs) + 3
-unfolding linkBytes
-bytes-more [] x = refl
-bytes-more (y ∷ ys) x = let ih = bytes-more ys x in omega arith
+bytes-more xs x =
+    let a = bytes-three (xs ++ x ∷ []) in
+    let b = bytes-three xs in
+    let c = length-append xs (x ∷ []) in
+    omega arith
 
 -- how long the two cards are
 lengths : (n f : ℕ) (xs : List Link) (x : Link) (rest : List ℕ) → length (cardBytes n f (xs ++ x ∷ []) rest) ≤ 1024

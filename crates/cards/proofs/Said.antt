@@ -11,24 +11,19 @@ use lib.Dec.{eqb, ltb}
 use borrow.Author.Tests.{lt-ltb, le-ltb, ne-eqb, ltb-true, eqb-true, eqb-false}
 use Rattle.facts.specs.Lists.{Each}
 use Rattle.facts.proofs.Bools.{cases, both, bools}
-use Rattle.refusal.specs.Refused.{Refused}
 use Rattle.network.specs.Links.{Links, noLinks, withLink}
-use Rattle.network.specs.Card.{network, refused, headFits, linkFits, readCard}
+use Rattle.network.specs.Card.{network, headFits, linkFits, readCard}
 use Rattle.network.specs.Print.{Link, linkBytes, cardBytes}
 use Rattle.network.specs.Places.{At}
 use Rattle.network.specs.Proper.{Proper}
 use Rattle.network.proofs.Reading.{reading-starts}
 use Rattle.network.proofs.Accepted.{Accepted, Headed, Linked, Ended, outcome, accepted-short}
-use Rattle.network.proofs.Networks.{network-accepted, card-proper}
+use Rattle.network.proofs.Networks.{unread, network-accepted, card-proper}
 use Rattle.cards.specs.Said.{Joins, Says, ReadAsSaid}
 use Rattle.cards.proofs.Marking.{marksOf}
 use Rattle.cards.proofs.Front.{front, card-fits}
 use Rattle.cards.proofs.Whole.{allFit, each-fits, fit-all, whole-read}
 use Rattle.cards.proofs.Marked.{marked-is, marks-one}
-
--- a refusal is no network
-unread : {C : Type 0} (r : Refused) (n f : ℕ) (links : Links) → refused r ≡ network n f links → C
-unread r n f links e = let z : _≡_ {A = ℕ} 0 1 = cc in absurd (omega arith)
 
 -- what a link command asks of its operands
 fits-joins : (n : ℕ) (x : Link) → linkFits n (x .0) (x .1) ≡ true → Joins n x

@@ -18,6 +18,7 @@ pub read-alike : (s t : List ℕ) → readCard s ≡ readCard t → Alike s t
 unfolding printInto printedIn cleanCard splitTest checkPlan runPlan lentAfter
 read-alike s t e =
     record {
+      read = e;
       print = λ lent. rw e refl;
       printed = λ lent. rw e refl;
       split = rw e refl;

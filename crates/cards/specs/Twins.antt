@@ -3,7 +3,7 @@
 --     Again       <-> a link command given again, anywhere after the first and whatever follows it, changes nothing; a fault behind it stands three
 --                     bytes later
 --     SetAlone    <-> two whole cards with one n, f and set of links give the same, but for the place of a refusal
---     SeenOnce    <-> the printed card, split test, plan check and run are the same for two such cards that are read
+--     SeenOnce    <-> reading, printing, split test, plan check and run give the same for two such cards that are read
 use mathlib.Core.Path.{_≡_}
 use mathlib.Core.Bool.{cond}
 use mathlib.Core.List.{List, [], _∷_, _++_, List·Memᴰ}
@@ -42,6 +42,7 @@ SameLinks xs ys = (x : Link) → (List·Memᴰ x xs → List·Memᴰ x ys) × (L
 
 -- no call tells card s from card t
 pub record Alike (s t : List ℕ) : Type 0 where
+  pub read : readCard s ≡ readCard t
   pub print : (lent : List ℕ) → printInto s lent ≡ printInto t lent
   pub printed : (lent : List ℕ) → printedIn s lent ≡ printedIn t lent
   pub split : splitTest s ≡ splitTest t

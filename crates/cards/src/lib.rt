@@ -1,1 +1,2 @@
-// Laws of the card reader: which cards give the same network. The crate has no function.
+// Laws of cards: which cards give the same network, what a card says, and what is printed of it.
+// The crate has no function.

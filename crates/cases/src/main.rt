@@ -185,6 +185,7 @@ fn answer_case(kind: u8, s: &[u8]) -> &[u8]
     let plan = part(first);
     let second = after(first);
     if kind == 98 {
+        // its second part is the buffer
         print_case(card, plan);
         return second;
     }

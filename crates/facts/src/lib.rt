@@ -1,2 +1,2 @@
-// Laws that name none of this library's notions: tests, searches, tables, rows. The crate has no
+// Laws that name none of this library's notions: tests, searches, tables, rows, stores. The crate has no
 // function; the proofs of the other crates cite its files.

@@ -25,15 +25,16 @@ unfolding splitTest
 refused-split s r e = ap splitOf (sym (refused-of (readCard s) r e))
 
 -- an accepted card's links take the place of those that were lent
-pub links-after : (a : Network) (n f : ℕ) (lent : Links) → headOf a ≡ head n f → linksAfter a lent ≡ linksOf a
+links-after : (a : Network) (n f : ℕ) (lent : Links) → headOf a ≡ head n f → linksAfter a lent ≡ linksOf a
 links-after (network m g links) n f lent e = refl
 links-after (refused r) n f lent e = cc
 
+pub network-is : (a : Network) (n f : ℕ) (lent links : Links) → headOf a ≡ head n f → links ≡ linksAfter a lent → a ≡ network n f links
+network-is a n f lent links e q = network-of a n f e ∙ ap (network n f) (sym (q ∙ links-after a n f lent e))
+
 pub head-proper : (s : List ℕ) (n f : ℕ) (lent links : Links) → headOf (readCard s) ≡ head n f → links ≡ linksAfter (readCard s) lent → Proper n f links
-head-proper s n f lent links e q =
-    rw (q ∙ links-after (readCard s) n f lent e) (card-proper s n f (linksOf (readCard s)) (network-of (readCard s) n f e))
+head-proper s n f lent links e q = card-proper s n f links (network-is (readCard s) n f lent links e q)
 
 pub network-split : (s : List ℕ) (n f : ℕ) (lent links : Links) → headOf (readCard s) ≡ head n f → links ≡ linksAfter (readCard s) lent → firstBad n f links ≡ splitTest s
 unfolding splitTest
-network-split s n f lent links e q =
-    ap (firstBad n f) (q ∙ links-after (readCard s) n f lent e) ∙ ap splitOf (sym (network-of (readCard s) n f e))
+network-split s n f lent links e q = ap splitOf (sym (network-is (readCard s) n f lent links e q))

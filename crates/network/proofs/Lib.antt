@@ -7,7 +7,7 @@
 -- Networks      the network of an accepted card is proper
 -- Pairs         the pairs of servers in their order, and the links among them
 -- CleanCard     the clean card in the lent buffer
--- Heads         what the reader's answer says of the split test
+-- Heads         what the reader's answer says of the card, and of the split test
 -- Search        what a search over one range finds
 -- Neighbours    tests that agree below n
 -- SourceRows    the rows of sources, as the code makes and reads them
@@ -20,7 +20,7 @@ pub mod LinkRows
 pub mod Reading
 pub mod Accepted
 pub mod Networks
-pub mod Pairs
+mod Pairs
 pub mod CleanCard
 pub mod Heads
 pub mod Search

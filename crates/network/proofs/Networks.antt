@@ -11,14 +11,15 @@ use lib.Seq.{getD-set-same, getD-set-other, set-out}
 use lib.Dec.{eqb, ltb}
 use borrow.Author.Tests.{ltb-true, ltb-false, eqb-true, eqb-false}
 use Rattle.facts.proofs.Bools.{cases, clash, bools}
+use Rattle.refusal.specs.Refused.{Refused}
 use Rattle.network.specs.Links.{Links, noLinks, linkedIn, withLink}
-use Rattle.network.specs.Card.{Network, network, refused, headFits, linkFits, readCard}
+use Rattle.network.specs.Card.{network, refused, headFits, linkFits, readCard}
 use Rattle.network.specs.Proper.{Proper}
 use Rattle.network.specs.Places.{At}
 use Rattle.network.proofs.Reading.{reading-starts, reading-answer, reading-goes}
 use Rattle.network.proofs.Accepted.{Accepted, Headed, Linked, Ended, outcome, accepted-short}
 
-pub no-links : (u v : ℕ) → linkedIn noLinks u v ≡ false
+no-links : (u v : ℕ) → linkedIn noLinks u v ≡ false
 unfolding linkedIn noLinks
 no-links u v =
     cases (ltb u 8)
@@ -46,7 +47,7 @@ linked-with links u v a b e =
         (λ m. inr (p, m))
         (marked (getD links u []) v b (sym (ap (λ (row : List Bool). getD row b false) r) ∙ e))
 
-none-there : {C : Type 0} (u v : ℕ) → linkedIn noLinks u v ≡ true → C
+pub none-there : {C : Type 0} (u v : ℕ) → linkedIn noLinks u v ≡ true → C
 none-there u v q = clash (linkedIn noLinks u v) q (no-links u v)
 
 proper-head : (n f : ℕ) → headFits n f ≡ true → Proper n f noLinks
@@ -100,11 +101,12 @@ module _ (s : List ℕ) (ok : Accepted s) (n′ f′ : ℕ) (links′ : Links) (
           (proper-link n f links p (getD s (at + 1) 0) (getD s (at + 2) 0) (w .fits))
       go on (inr (inr w)) = same-network (reading-answer r (network n f links) (w .step) ∙ is) p
 
+-- a refusal is no network
+pub unread : {C : Type 0} (r : Refused) (n f : ℕ) (links : Links) → refused r ≡ network n f links → C
+unread r n f links e = let z : _≡_ {A = ℕ} 0 1 = cc in absurd (omega arith)
+
 pub network-accepted : (s : List ℕ) (n f : ℕ) (links : Links) → readCard s ≡ network n f links → Accepted s
-network-accepted s n f links is r e = clashing (readCard s) is e
-  where
-    clashing : (a : Network) → a ≡ network n f links → a ≡ refused r → ⊥
-    clashing a p q = let z : _≡_ {A = ℕ} 0 1 = cc in omega arith
+network-accepted s n f links is r e = unread r n f links (sym e ∙ is)
 
 pub card-proper : (s : List ℕ) (n f : ℕ) (links : Links) → readCard s ≡ network n f links → Proper n f links
 card-proper s n f links is = go (outcome start ok)

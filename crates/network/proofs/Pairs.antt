@@ -10,26 +10,27 @@ use Prim.Native.Nat.{ℕ, suc, _+_, _-_, _*_, _/_, _%_, _≤_, _<_}
 use native.Mathlib.Numerals.{add-one}
 use native.Mathlib.Omega.{arith}
 use lib.ListN.{length, set, length-set}
+use Rattle.facts.specs.Laid.{laid}
 use Rattle.network.specs.Links.{Links, linkedIn}
-use Rattle.network.specs.Print.{Link, linkBytes, linksFrom, ascending, laid}
+use Rattle.network.specs.Print.{Link, linkBytes, linksAmong, ascending}
 
 abbrev pub left : Links → ℕ → List Link
-left links pair = linksFrom (64 - pair) pair links
+left links pair = linksAmong (64 - pair) pair links
 
 module _ (links : Links) (pair : ℕ) where
-  pub left-none : 64 ≤ pair → left links pair ≡ []
-  unfolding linksFrom
+  left-none : 64 ≤ pair → left links pair ≡ []
+  unfolding linksAmong
   left-none h = let z : 64 - pair ≡ 0 = omega arith in rw z refl
 
   module _ (h : pair < 64) where
     one-less : left links pair ≡ cond (linkedIn links (pair / 8) (pair % 8)) ((pair / 8, pair % 8) ∷ left links (pair + 1)) (left links (pair + 1))
-    unfolding linksFrom
+    unfolding linksAmong
     one-less = let z : 64 - pair ≡ suc (64 - (pair + 1)) = omega arith in let a = add-one pair in rw (z, a) refl
 
-    pub left-goes : linkedIn links (pair / 8) (pair % 8) ≡ true → left links pair ≡ (pair / 8, pair % 8) ∷ left links (pair + 1)
+    left-goes : linkedIn links (pair / 8) (pair % 8) ≡ true → left links pair ≡ (pair / 8, pair % 8) ∷ left links (pair + 1)
     left-goes e = let o = one-less in rw e at o
 
-    pub left-skips : linkedIn links (pair / 8) (pair % 8) ≡ false → left links pair ≡ left links (pair + 1)
+    left-skips : linkedIn links (pair / 8) (pair % 8) ≡ false → left links pair ≡ left links (pair + 1)
     left-skips e = let o = one-less in rw e at o
 
 module _ (links : Links) where
@@ -64,14 +65,14 @@ module _ (links : Links) (old : List ℕ) where
     pub within : pair ≤ 64
     pub long : length lent ≡ length old
     pub room : at + length (linkBytes (left links pair)) ≤ length old
-    pub whole : laid lent at (linkBytes (left links pair)) ≡ laid old 3 (linkBytes (ascending links))
+    pub whole : laid at (linkBytes (left links pair)) lent ≡ laid 3 (linkBytes (ascending links)) old
 
   pub laying-starts : 3 + length (linkBytes (ascending links)) ≤ length old → Laying old 3 0
   unfolding ascending
   laying-starts h = record { within = omega arith; long = refl; room = h; whole = refl }
 
   module _ {lent : List ℕ} {at pair : ℕ} (k : Laying lent at pair) where
-    pub laying-done : 64 ≤ pair → lent ≡ laid old 3 (linkBytes (ascending links))
+    pub laying-done : 64 ≤ pair → lent ≡ laid 3 (linkBytes (ascending links)) old
     unfolding linkBytes laid
     laying-done h = let w = k .whole in let z = left-none links pair h in rw z at w
 

@@ -8,7 +8,6 @@ use mathlib.Core.List.{List, [], _∷_, _++_}
 use Prim.Native.Nat.{ℕ, zero, suc, _/_, _%_}
 use lib.Dec.{ltb}
 use lib.ListN.{length, drop}
-use lib.Seq.{sets}
 use Rattle.refusal.specs.Refused.{Refused, call}
 use Rattle.network.specs.Links.{Links, linkedIn}
 use Rattle.network.specs.Card.{Network, network, refused, readCard}
@@ -31,15 +30,15 @@ abbrev pub wholeCard : (n f : ℕ) → List Link → List ℕ
 wholeCard n f xs = cardBytes n f xs (3 ∷ [])
 
 -- the links among the k pairs from pair i on; pair i is u = i / 8 and v = i % 8, so that pairs ascend by u, then by v
-unfoldable pub linksFrom : (k i : ℕ) → Links → List Link
-linksFrom zero i links = []
-linksFrom (suc k) i links =
-    let later = linksFrom k (suc i) links in
+unfoldable pub linksAmong : (k i : ℕ) → Links → List Link
+linksAmong zero i links = []
+linksAmong (suc k) i links =
+    let later = linksAmong k (suc i) links in
     cond (linkedIn links (i / 8) (i % 8)) ((i / 8, i % 8) ∷ later) later
 
--- the links between the eight servers that there can be
+-- those among all pairs of the eight servers that there can be
 unfoldable pub ascending : Links → List Link
-ascending links = linksFrom 64 0 links
+ascending links = linksAmong 64 0 links
 
 unfoldable pub printCard : (n f : ℕ) → Links → List ℕ
 printCard n f links = wholeCard n f (ascending links)
@@ -51,10 +50,6 @@ cleanOf (refused r) = []
 
 unfoldable pub cleanCard : List ℕ → List ℕ
 cleanCard s = cleanOf (readCard s)
-
--- bytes laid over those from a place on, for the loop that writes the links
-unfoldable pub laid : List ℕ → ℕ → List ℕ → List ℕ
-laid lent at bytes = sets lent at bytes
 
 pub data Print : Type 0 where
   wrote : (bytes : ℕ) → Print

@@ -7,7 +7,8 @@ use refusal::Refusal;
 ghost use mathlib.Core.Path.{_≡_};
 ghost use Prim.Native.Nat.{_+_, _≤_};
 ghost use lib.ListN.{length};
-ghost use Rattle.network.specs.Print.{linkBytes, ascending, printCard, laid, fitting, afterPrint};
+ghost use Rattle.facts.specs.Laid.{laid};
+ghost use Rattle.network.specs.Print.{linkBytes, ascending, printCard, fitting, afterPrint};
 ghost use Rattle.network.specs.Answers.{printedOf, Printing};
 
 pub enum Printed {
@@ -35,7 +36,7 @@ fn card_length(links: [[bool; 8]; 8]) -> usize
 // The links, from the fourth byte on.
 fn write_links(links: [[bool; 8]; 8], lent: &mut [u8])
     requires { ⌜ 3 + length (linkBytes (ascending links)) ≤ length (now lent) ⌝ }
-    ensures { λ r. ⌜ now (lent .exit) ≡ laid (now (lent .entry)) 3 (linkBytes (ascending links)) ⌝ }
+    ensures { λ r. ⌜ now (lent .exit) ≡ laid 3 (linkBytes (ascending links)) (now (lent .entry)) ⌝ }
 {
     let mut at: usize = 3;
     for pair in 0..64usize {

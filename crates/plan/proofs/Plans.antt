@@ -17,7 +17,7 @@ use Rattle.network.specs.Links.{Links}
 use Rattle.network.specs.Card.{Network, network, refused, readCard, head, headOf, linksAfter}
 use Rattle.network.specs.Card as Card
 use Rattle.network.proofs.Main.{card-proper}
-use Rattle.network.proofs.Heads.{refused-of}
+use Rattle.network.proofs.Heads.{network-is, refused-of}
 use Rattle.plan.specs.Members.{listFrom}
 use Rattle.plan.specs.Due.{isPart, blocksOf, due}
 use Rattle.plan.specs.Check.{Progress, reached, andThen, checkBlocks, checkEnd, Totals, totals, turned, totalsOf, checkOn, checkPlan}
@@ -112,22 +112,18 @@ module _ (n f : ℕ) (links : Links) (s : List ℕ) where
 
 -- the card reader's answer: n and f with the links apart, or the refusal
 
-pub with-links : (a : Network) (n f : ℕ) (lent : Links) → headOf a ≡ head n f → a ≡ network n f (linksAfter a lent)
-with-links (network m g links) n f lent e = let p : m ≡ n = cc in let q : g ≡ f = cc in cc
-with-links (refused r) n f lent e = cc
-
 module _ (card s : List ℕ) where
   pub card-refused : (r : Refused) → headOf (readCard card) ≡ Card.turned r → turned r ≡ checkPlan card s
   unfolding checkPlan checkOn
   card-refused r e = ap (λ (a : Network). checkOn a s) (sym (refused-of (readCard card) r e))
 
   module _ (n f : ℕ) (lent links : Links) (e : headOf (readCard card) ≡ head n f) (l : links ≡ linksAfter (readCard card) lent) where
-    network-is : readCard card ≡ network n f links
-    network-is = with-links (readCard card) n f lent e ∙ ap (network n f) (sym l)
+    card-is : readCard card ≡ network n f links
+    card-is = network-is (readCard card) n f lent links e l
 
     pub card-few : n ≤ 8
-    card-few = card-proper card n f links network-is .most
+    card-few = card-proper card n f links card-is .most
 
     pub card-checked : (x : Totals) → x ≡ checkOn (network n f links) s → x ≡ checkPlan card s
     unfolding checkPlan
-    card-checked x q = q ∙ ap (λ (a : Network). checkOn a s) (sym network-is)
+    card-checked x q = q ∙ ap (λ (a : Network). checkOn a s) (sym card-is)

@@ -15,13 +15,12 @@ use Rattle.network.specs.Card.{network, readCard}
 use Rattle.network.specs.Answers.{readingOf}
 use Rattle.network.specs.Answers as Reader
 use Rattle.network.specs.declared.card.Reading.{Reading}
-use Rattle.network.proofs.Heads.{refused-of}
+use Rattle.network.proofs.Heads.{network-is, refused-of}
 use Rattle.network.proofs.Main.{card-proper}
 use Rattle.plan.specs.Due.{due}
 use Rattle.plan.specs.Check.{totals, turned, checkPlan}
 use Rattle.plan.specs.Answers.{checkedOf}
 use Rattle.plan.specs.declared.check.Checked.{Checked}
-use Rattle.plan.proofs.Plans.{with-links}
 use Rattle.rules.specs.Blocks.{decodeBlocks, decodePlan}
 use Rattle.rules.proofs.Whole.{decode-length}
 use Rattle.rules.proofs.Main.{totalled}
@@ -35,14 +34,14 @@ use Rattle.steps.proofs.Decides.{demand}
 
 -- the network that the card reader's answer gives, and its accepted plan
 module _ (card : List ℕ) (before links : Links) (reading : Reading) (read : Reader.Answered card before reading links) (n f : ℕ) (is : reading ≡ Reading.Network n f) where
-  network-is : readCard card ≡ network n f links
-  network-is = with-links (readCard card) n f before (sym (read .reading) ∙ ap readingOf is) ∙ ap (network n f) (sym (read .links))
+  card-is : readCard card ≡ network n f links
+  card-is = network-is (readCard card) n f before links (sym (read .reading) ∙ ap readingOf is) (read .links)
 
   pub call-few : n ≤ 8
-  call-few = card-proper card n f links network-is .most
+  call-few = card-proper card n f links card-is .most
 
   pub call-bound : f ≤ 2
-  call-bound = card-proper card n f links network-is .bound
+  call-bound = card-proper card n f links card-is .bound
 
   module _ (plan : List ℕ) (checked : Checked) (check : checkedOf checked ≡ checkPlan card plan) (blocks carriages : ℕ) (ok : checked ≡ Checked.Accepted blocks carriages) where
     accepted : checkPlan card plan ≡ totals blocks carriages
@@ -50,13 +49,13 @@ module _ (card : List ℕ) (before links : Links) (reading : Reading) (read : Re
 
     many : blocks ≡ length (due n f)
     unfolding decodePlan
-    many = totalled card plan n f links network-is blocks carriages accepted .0 ∙ decode-length n f plan (length (due n f))
+    many = totalled card plan n f links card-is blocks carriages accepted .0 ∙ decode-length n f plan (length (due n f))
 
     pub call-short : length plan ≤ 1048576
-    call-short = accepted-runnable card plan n f links network-is (blocks, carriages, accepted) .0
+    call-short = accepted-runnable card plan n f links card-is (blocks, carriages, accepted) .0
 
     pub call-runs : Runnable n f plan blocks
-    call-runs = rw many (accepted-runnable card plan n f links network-is (blocks, carriages, accepted) .1)
+    call-runs = rw many (accepted-runnable card plan n f links card-is (blocks, carriages, accepted) .1)
 
 module _ (card plan inputs : List ℕ) (X : ℕ) (table lent : List ℕ) where
   -- demand 3 holds of every answer that is the definition's
@@ -85,7 +84,7 @@ module _ (card plan inputs : List ℕ) (X : ℕ) (table lent : List ℕ) where
       pub answer-plan : (g : Refusal) → checked ≡ Checked.Refused g → Answered card plan inputs X table lent (Ran.Refused g) lent
       unfolding runPlan runOn
       answer-plan g stop =
-          let run : runPlan card plan inputs X lent ≡ turned (refusalOf g) = rw (network-is card before links reading read n f is, ← check, stop) refl in
+          let run : runPlan card plan inputs X lent ≡ turned (refusalOf g) = rw (card-is card before links reading read n f is, ← check, stop) refl in
           answered (Ran.Refused g) lent (sym run) (kept (refusalOf g) run)
 
       module _ (blocks carriages : ℕ) (ok : checked ≡ Checked.Accepted blocks carriages) where
@@ -94,7 +93,7 @@ module _ (card plan inputs : List ℕ) (X : ℕ) (table lent : List ℕ) where
             → Answered card plan inputs X table lent r after
         unfolding runPlan runOn lentAfter written decodePlan
         answer-call r after a b =
-            let net = network-is card before links reading read n f is in
+            let net = card-is card before links reading read n f is in
             let c = accepted card before links reading read n f is plan checked check blocks carriages ok in
             let run : ranOf r ≡ runPlan card plan inputs X lent = rw (net, c) a in
             answered r after run (rw (← run, net, ← many card before links reading read n f is plan checked check blocks carriages ok) b)

@@ -189,7 +189,7 @@ table =
     (1 ∷ 13 ∷ 0x01 ∷ 0x03 ∷ 0x01 ∷ (linksFrom 0 (1 ∷ 2 ∷ []) ++ linksFrom 2 (1 ∷ []) ++ 0x03 ∷ 9 ∷ []))
     ∷ row "P4 is printed as it stands" (prints P4-card (replicate 40 9)) (1 ∷ 40 ∷ P4-card)
     ∷ row "one byte lent less than the card has is 14, and changes none" (prints P2-card (9 ∷ 9 ∷ 9 ∷ [])) (0 ∷ 2 ∷ 14 ∷ 9 ∷ 9 ∷ 9 ∷ [])
-    ∷ row "a card that is refused comes before a short buffer" (prints (0x03 ∷ []) (9 ∷ [])) (0 ∷ 0 ∷ 4 ∷ 0 ∷ 9 ∷ [])
+    ∷ row "a card's refusal comes before that of a short buffer" (prints (0x03 ∷ []) (9 ∷ [])) (0 ∷ 0 ∷ 4 ∷ 0 ∷ 9 ∷ [])
     ∷ row "n 8 is read" (reads (0x01 ∷ 0x08 ∷ 0x00 ∷ 0x03 ∷ [])) (1 ∷ 8 ∷ 0 ∷ [])
     ∷ row "n 9 is refused 5" (reads (0x01 ∷ 0x09 ∷ 0x00 ∷ 0x03 ∷ [])) (0 ∷ 0 ∷ 5 ∷ 0 ∷ [])
     ∷ row "f 2 is read" (reads (0x01 ∷ 0x08 ∷ 0x02 ∷ 0x03 ∷ [])) (1 ∷ 8 ∷ 2 ∷ [])

@@ -1,7 +1,4 @@
--- Bytes laid over a buffer, and decimal digits.
---     laid-append        two texts, one after the other, are their join
---     laid-whole         a buffer that is long enough holds the whole text, and its later bytes are untouched
---     length-laid        the buffer keeps its length
+-- Texts put into a buffer, and decimal digits.
 --     put-none           no text leaves the buffer as it is
 --     put-stored         one byte, stored
 --     put-past           one byte, past the buffer's end
@@ -26,31 +23,9 @@ use lib.ListN.{length, getD, set, take, drop, length-set, length-append}
 use lib.Seq.{set-out, take-suc, take-length, take-append-seam}
 use borrow.Author.Tests.{ltb-false, lt-ltb, le-ltb}
 use Rattle.facts.proofs.Bools.{cases}
-use Rattle.transcript.specs.Text.{spell, decimal, laid, Put}
-
--- bytes laid over a buffer
-
-pub laid-append : (at : ℕ) (a b l : List ℕ) → laid at (a ++ b) l ≡ laid (at + length a) b (laid at a l)
-unfolding laid
-laid-append at [] b l = rw add-zero refl
-laid-append at (x ∷ a) b l = rw (add-suc, ← suc-add) (laid-append (suc at) a b (set l at x))
-
-pub length-laid : (at : ℕ) (text l : List ℕ) → length (laid at text l) ≡ length l
-unfolding laid
-length-laid at [] l = refl
-length-laid at (b ∷ bs) l = length-laid (suc at) bs (set l at b) ∙ length-set l at b
-
--- what stands before the place is untouched
-laid-after : (at : ℕ) (text : List ℕ) (x : ℕ) (l : List ℕ) → laid (suc at) text (x ∷ l) ≡ x ∷ laid at text l
-unfolding laid
-laid-after at [] x l = refl
-laid-after at (b ∷ bs) x l = laid-after (suc at) bs x (set l at b)
-
-pub laid-whole : (text l : List ℕ) → length text ≤ length l → laid 0 text l ≡ text ++ drop (length text) l
-unfolding laid
-laid-whole [] l h = refl
-laid-whole (b ∷ bs) [] h = absurd (omega arith)
-laid-whole (b ∷ bs) (x ∷ l) h = laid-after 0 bs b l ∙ ap (λ (r : List ℕ). b ∷ r) (laid-whole bs l (omega arith))
+use Rattle.facts.specs.Laid.{laid}
+use Rattle.facts.proofs.Stores.{laid-append, length-laid, laid-whole}
+use Rattle.transcript.specs.Text.{spell, decimal, Put}
 
 -- puts
 

@@ -1,13 +1,13 @@
 -- What `rehearse` prints, as bytes.
 --     decimal n              == n in decimal digits
 --     transcript card plan runIn   == all its lines; run.in is the faulty set, then n inputs, then the message table
---     laid at text l         == the bytes of l with those of the text laid over them from a place on, as far as l goes
 use mathlib.Core.Bool.{Bool, cond, _||_}
 use mathlib.Core.List.{List, [], _∷_, _++_}
 use mathlib.Core.Path.{_≡_}
 use Prim.Native.Nat.{ℕ, zero, suc, _+_, _/_, _%_, _≤_}
 use lib.Dec.{ltb}
-use lib.ListN.{length, getD, take, drop, set, replicate}
+use lib.ListN.{length, getD, take, drop, replicate}
+use Rattle.facts.specs.Laid.{laid}
 use Rattle.sets.specs.Sets.{has}
 use Rattle.refusal.specs.Refused.{Refused, card, plan, call}
 use Rattle.network.specs.Card.{Network, network, refused, readCard}
@@ -119,12 +119,6 @@ isLong file = ltb 65536 (length file)
 unfoldable pub transcript : List ℕ → List ℕ → List ℕ → List ℕ
 transcript cardBytes planBytes runIn =
     cond (isLong cardBytes || (isLong planBytes || isLong runIn)) tooLong (filesLines (readCard cardBytes) cardBytes planBytes runIn)
-
--- bytes laid over a lent buffer
-
-unfoldable pub laid : ℕ → List ℕ → List ℕ → List ℕ
-laid at [] l = l
-laid at (b ∷ bs) l = laid (suc at) bs (set l at b)
 
 -- the text stands in the buffer from a place on, and the answer is the place after it; the text has at most `most` bytes
 pub record Put (at : ℕ) (text : List ℕ) (most : ℕ) (before after : List ℕ) (r : ℕ) : Type 0 where
