@@ -94,10 +94,10 @@ enum {
     AGREEMENT_SHORT_BUFFER = 14   /* `lent` */
 };
 
-/* The largest n: agreement_run never refuses a buffer of so many bytes 14. */
+/* The largest n: agreement_run never refuses 14 for a buffer of so many bytes. */
 #define AGREEMENT_SERVERS 8
 
-/* The longest clean card: agreement_print_card never refuses a buffer of so many bytes 14. */
+/* The longest clean card: agreement_print_card never refuses 14 for a buffer of so many bytes. */
 #define AGREEMENT_CLEAN_CARD_LIMIT 172
 
 /* The most bytes that a card and a plan may have; longer ones are refused 1. */

@@ -17,7 +17,7 @@ use Rattle.facts.proofs.Stores.{laid-append, length-laid, laid-whole}
 use Rattle.refusal.specs.Refused.{refusalOf, call}
 use Rattle.refusal.specs.declared.Refusal.{Refusal}
 use Rattle.network.specs.Links.{Links}
-use Rattle.network.specs.Card.{network, readCard, head, turned, headOf, linksAfter}
+use Rattle.network.specs.Card.{readCard, head, turned, headOf, linksAfter}
 use Rattle.network.specs.Print.{Link, linkBytes, cardBytes, ascending, printCard, cleanCard, wrote, unwritten, fitting, printInto, afterPrint, printedIn}
 use Rattle.network.specs.Answers.{printedOf, Printing}
 use Rattle.network.specs.declared.print.Printed.{Printed}

@@ -14,7 +14,7 @@ use Rattle.refusal.specs.Refused.{Refused, plan, planRefusal, numberOf, placeOf
 use Rattle.refusal.specs.declared.PlanGround.{PlanGround}
 use Rattle.sets.specs.Sets.{minus, full, size, TableOf}
 use Rattle.network.specs.Links.{Links}
-use Rattle.network.specs.Card.{Network, network, refused, readCard, head, headOf, linksAfter}
+use Rattle.network.specs.Card.{Network, network, readCard, head, headOf, linksAfter}
 use Rattle.network.specs.Card as Card
 use Rattle.network.proofs.Main.{card-proper}
 use Rattle.network.proofs.Heads.{network-is, refused-of}

@@ -29,7 +29,7 @@ fn lengths() -> (usize, usize) {
     (without, with_one - without)
 }
 
-/// A clean card of two links, of which the second is given first, and again.
+/// The commands of a clean card.
 struct Commands {
     head: u8,
     link: u8,
@@ -37,6 +37,7 @@ struct Commands {
 }
 
 fn commands() -> Commands {
+    // Of two links the second is given first, and again.
     let printed = clean(&card_of(3, 1, &[(2, 0), (0, 1), (2, 0)]));
     let [head, 3, 1, link, 0, 1, again, 2, 0, end] = printed[..] else {
         panic!("a clean card of two links is {printed:02x?}");
@@ -60,7 +61,7 @@ pub fn stated(documents: &Documents) -> Held {
         format!("the card printed back: the number of bytes, or the refusal, the card's, then {buffer};"),
         format!("exactly when it is {head} n f, any list of links"),
         format!("between two different servers, {end}, at most {limit} bytes,"),
-        format!("no printed card has more than {} bytes", *CLEAN_LIMIT),
+        format!("printed into every lent buffer of {} bytes", *CLEAN_LIMIT),
     ])?;
     // Three links: the last is given first, and again, and the other two stand the other way.
     let patched = card_of(3, 1, &[(2, 1), (0, 2), (0, 1), (2, 1)]);

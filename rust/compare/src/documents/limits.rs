@@ -110,8 +110,8 @@ pub fn in_header(documents: &Documents) -> Held {
     page.says_all(&[
         format!("n from {n}; f, from {f}, bounds how many are faulty"),
         format!("card or plan over its length ({card} and {plan} bytes), place 0"),
-        format!("agreement_run never refuses a buffer of so many bytes {buffer}."),
-        format!("agreement_print_card never refuses a buffer of so many bytes {buffer}."),
+        format!("agreement_run never refuses {buffer} for a buffer of so many bytes."),
+        format!("agreement_print_card never refuses {buffer} for a buffer of so many bytes."),
         format!("longer ones are refused {length}."),
     ])?;
     for (name, value) in [
