@@ -1,7 +1,7 @@
 -- The printed card: it says the network in ascending order, so it is read as that network, and printed again as itself; it is short, and stands in
 -- front in the lent buffer. Assumes nothing.
 use mathlib.Core.Path.{_≡_, refl, sym, ap, _∙_}
-use mathlib.Core.List.{List, []}
+use mathlib.Core.List.{List}
 use Prim.Native.Nat.{ℕ, _+_, _*_, _≤_}
 use native.Mathlib.Omega.{arith}
 use lib.ListN.{length, drop}
