@@ -13,4 +13,4 @@ pub use loops::{
 pub use tally::Tally;
 
 pub(crate) use given::CARDS;
-pub(crate) use loops::{fillings, sizes, small_networks, sound_cards};
+pub(crate) use loops::{each_of_any_length, each_truncation, sizes, small_networks};

@@ -5,6 +5,7 @@ use crate::repeated;
 use generate::{
     all_links, card, card_of, complete_card, network_card, network_card_with, with_twins, Rng,
 };
+use std::fmt::Arguments;
 use std::ops::Range;
 
 /// Every n and f that a card may have.
@@ -80,7 +81,7 @@ pub fn twin_cables(seeds: Range<u64>) -> Tally {
 }
 
 /// For every n and f the complete network and a few random ones.
-pub(crate) fn sound_cards() -> Vec<Vec<u8>> {
+fn sound_cards() -> Vec<Vec<u8>> {
     let mut rng = Rng::new(1);
     let mut cards = Vec::new();
     for (n, f) in sizes() {
@@ -91,20 +92,27 @@ pub(crate) fn sound_cards() -> Vec<Vec<u8>> {
 }
 
 /// Every beginning of some sound cards, the whole card included.
+pub fn truncations() -> Tally {
+    let mut tally = Tally::default();
+    each_truncation(|card, made_by| {
+        tally.compare(card, made_by);
+    });
+    tally
+}
+
+/// Hands each beginning of some sound cards over, with how it was made.
 ///
 /// The bytes after the end of what is handed over are the rest of the sound card,
 /// so an implementation that read on would be found out.
-pub fn truncations() -> Tally {
-    let mut tally = Tally::default();
+pub(crate) fn each_truncation(mut each: impl FnMut(&[u8], Arguments)) {
     for card in sound_cards() {
         for length in 0..=card.len() {
-            tally.compare(
+            each(
                 &card[..length],
                 format_args!("a sound card cut off at {length}"),
             );
         }
     }
-    tally
 }
 
 /// Some sound cards with more behind them or with another byte in the end's place:
@@ -140,20 +148,27 @@ pub const CARDS_OF_A_LENGTH: usize = 13;
 /// random bytes.
 pub fn any_lengths(lengths: Range<usize>) -> Tally {
     let mut tally = Tally::default();
+    each_of_any_length(lengths, |card, made_by| {
+        tally.compare(card, made_by);
+    });
+    tally
+}
+
+/// Hands each of these cards over, with how it was made.
+pub(crate) fn each_of_any_length(lengths: Range<usize>, mut each: impl FnMut(&[u8], Arguments)) {
     let fillings = fillings(lengths.end);
     for length in lengths {
         for (number, filling) in fillings.iter().enumerate() {
-            tally.compare(
+            each(
                 &filling[..length],
                 format_args!("filling {number} of any_lengths, length {length}"),
             );
         }
     }
-    tally
 }
 
 /// The longest of these cards: the others are their beginnings.
-pub(crate) fn fillings(longest: usize) -> [Vec<u8>; CARDS_OF_A_LENGTH] {
+fn fillings(longest: usize) -> [Vec<u8>; CARDS_OF_A_LENGTH] {
     let random = |seed| {
         let mut rng = Rng::new(seed);
         (0..longest).map(|_| rng.next() as u8).collect()

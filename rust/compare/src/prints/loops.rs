@@ -1,7 +1,7 @@
 //! The cards on which library and reference are compared.
 
 use super::tally::Tally;
-use crate::cards::{fillings, sizes, small_networks, sound_cards};
+use crate::cards::{each_of_any_length, each_truncation, sizes, small_networks};
 use generate::{card, card_of, network_card, with_twins, Rng};
 use std::ops::Range;
 
@@ -63,14 +63,9 @@ pub fn every_small_network() -> Tally {
 /// Every beginning of some sound cards, the whole card included.
 pub fn truncations() -> Tally {
     let mut tally = Tally::default();
-    for card in sound_cards() {
-        for length in 0..=card.len() {
-            tally.compare(
-                &card[..length],
-                format_args!("a sound card cut off at {length}"),
-            );
-        }
-    }
+    each_truncation(|card, made_by| {
+        tally.compare(card, made_by);
+    });
     tally
 }
 
@@ -78,14 +73,8 @@ pub fn truncations() -> Tally {
 /// bytes.
 pub fn any_lengths(lengths: Range<usize>) -> Tally {
     let mut tally = Tally::default();
-    let fillings = fillings(lengths.end);
-    for length in lengths {
-        for (number, filling) in fillings.iter().enumerate() {
-            tally.compare(
-                &filling[..length],
-                format_args!("filling {number} of any_lengths, length {length}"),
-            );
-        }
-    }
+    each_of_any_length(lengths, |card, made_by| {
+        tally.compare(card, made_by);
+    });
     tally
 }
