@@ -27,6 +27,11 @@ pair-before i j h =
     (λ e. inl (ltb-true (i / 8) (j / 8) e))
     (λ e. let k = ltb-false (i / 8) (j / 8) e in inr (omega arith, omega arith))
 
+-- how many of the k pairs from i on are of two servers
+others : ℕ → ℕ → ℕ
+others zero i = 0
+others (suc k) i = let later = others k (suc i) in cond (eqb (i / 8) (i % 8)) later (suc later)
+
 module _ (links : Links) where
   -- a link from pair i on, with its pair
   record Paired (i : ℕ) (x : Link) : Type 0 where
@@ -82,11 +87,6 @@ module _ (links : Links) where
       let a : (8 * u + v) / 8 ≡ u = omega arith in
       let b : (8 * u + v) % 8 ≡ v = omega arith in
       rw (a, b) at (pair-in 64 0 (8 * u + v) (omega arith) (omega arith) (rw (a, b) e))
-
-  -- how many of the k pairs from i on are of two servers
-  others : ℕ → ℕ → ℕ
-  others zero i = 0
-  others (suc k) i = let later = others k (suc i) in cond (eqb (i / 8) (i % 8)) later (suc later)
 
   module _ (apart : (u v : ℕ) → linkedIn links u v ≡ true → u ≡ v → ⊥) where
     few-from : (k i : ℕ) → length (linksAmong k i links) ≤ others k i
