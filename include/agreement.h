@@ -60,7 +60,7 @@ extern "C" {
 /* The version of this header. */
 #define AGREEMENT_VERSION_MAJOR 0
 #define AGREEMENT_VERSION_MINOR 3
-#define AGREEMENT_VERSION_PATCH 0
+#define AGREEMENT_VERSION_PATCH 1
 #define AGREEMENT_VERSION \
     (UINT64_C(1000000) * AGREEMENT_VERSION_MAJOR + UINT64_C(1000) * AGREEMENT_VERSION_MINOR + \
      AGREEMENT_VERSION_PATCH)
@@ -106,7 +106,7 @@ enum {
 
 /*
  * The bytes of stack that a call needs at most. The frames along the calls in the archive add up to
- * 2,288 bytes at the deepest, in agreement_run; no call on the example sites or on damaged versions
+ * 1,760 bytes at the deepest, in agreement_run; no call on the example sites or on damaged versions
  * of them was measured to use more. `sh tools/stack` does both again.
  */
 #define AGREEMENT_STACK 4096

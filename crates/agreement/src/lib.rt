@@ -28,7 +28,7 @@ ghost use Rattle.agreement.specs.Version.{version};
 pub extern "C" fn agreement_version() -> u64
     ensures { λ r. ⌜ r ≡ version ⌝ }
 {
-    3_000
+    3_001
 }
 
 // 2, what is at fault, the refusal's number, its place.

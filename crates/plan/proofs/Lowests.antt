@@ -1,8 +1,7 @@
 -- The members of a set, taken out from the lowest on.
 --     members-next    the lowest member, and then the members of what is left
---     members-then    the same, with the numbers that the code has for them
 --     members-none    the empty set has none
---     Taken           the lowest member taken out
+--     Taken, take-lowest   the lowest member taken out
 --     Taking, taking-..   the loop that takes them out: what is left from here gives the answer of the whole
 --     row-others      a route from each other server: the receiver may be left out of the sources
 -- Assumes nothing.
@@ -11,12 +10,12 @@ use mathlib.Core.Bool.{Bool, true, false, cond, not, _&&_}
 use mathlib.Core.List.{List, [], _∷_}
 use Prim.Native.Nat.{ℕ, zero, suc, _+_, _*_, _≤_, _<_}
 use native.Mathlib.Omega.{arith}
-use lib.ListN.{length, getD}
+use lib.ListN.{length}
 use lib.Dec.{eqb, ltb}
 use borrow.Author.Tests.{lt-ltb, eq-eqb, ne-eqb, eqb-true}
 use Rattle.facts.proofs.Bools.{cases, clash}
 use Rattle.refusal.specs.declared.PlanGround.{PlanGround}
-use Rattle.sets.specs.Sets.{Set, has, single, minus, lowest, firstIn, TableOf}
+use Rattle.sets.specs.Sets.{Set, has, single, minus, lowest, firstIn}
 use Rattle.sets.proofs.Members.{has-minus, has-single, has-empty, has-below, minus-small}
 use Rattle.sets.proofs.LowestMember.{lowest-in}
 use Rattle.network.specs.Links.{Links}
@@ -88,7 +87,8 @@ members-next s h o =
     list-first 8 0 (has s) (has (minus s (single (lowest s)))) t l
     (λ i g. has-minus s (single (lowest s)) i ∙ ap (λ (x : Bool). has s i && not x) (has-single (lowest s) i ∙ ap (λ (x : Bool). x && eqb (lowest s) i) (lt-ltb (lowest s) 8 l)))
 
-pub members-then : (left x one next : ℕ) → left < 256 → (left ≡ 0 → ⊥) → x ≡ lowest left → one ≡ single x → next ≡ minus left one
+-- the same, with the numbers that the code has for them
+members-then : (left x one next : ℕ) → left < 256 → (left ≡ 0 → ⊥) → x ≡ lowest left → one ≡ single x → next ≡ minus left one
     → members left ≡ x ∷ members next
 members-then left x one next h o a b c =
     let e : next ≡ minus left (single (lowest left)) = c ∙ ap (minus left) (b ∙ ap single a) in
@@ -102,13 +102,11 @@ pub record Taken (left x next : ℕ) : Type 0 where
   pub rest : next ≡ minus left (single x)
   pub split : members left ≡ x ∷ members next
 
--- as the code takes it out, by a table of the lowest servers
-pub take-lowest : {left one next : ℕ} {table : List ℕ} → left < 256 → (left ≡ 0 → ⊥) → TableOf lowest table → one ≡ single (getD table left 0) → next ≡ minus left one
-    → Taken left (getD table left 0) next
-take-lowest {left} {one} {next} {table} h o t a b =
-    let e = t .entry left h in
-    let m : has left (getD table left 0) ≡ true = ap (has left) e ∙ lowest-in left h o in
-    record { member = m; server = has-below 8 left _ h m; small = rw b (minus-small 8 left one h); rest = b ∙ ap (minus left) a; split = members-then left _ one next h o e a b }
+-- as the code takes it out
+pub take-lowest : {left x one next : ℕ} → left < 256 → (left ≡ 0 → ⊥) → x ≡ lowest left → one ≡ single x → next ≡ minus left one → Taken left x next
+take-lowest {left} {x} {one} {next} h o e a b =
+    let m : has left x ≡ true = ap (has left) e ∙ lowest-in left h o in
+    record { member = m; server = has-below 8 left x h m; small = rw b (minus-small 8 left one h); rest = b ∙ ap (minus left) a; split = members-then left x one next h o e a b }
 
 pub taken-less : {left x next : ℕ} → Taken left x next → length (members next) < length (members left)
 taken-less k = let e = ap length (k .split) in omega arith

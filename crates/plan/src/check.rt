@@ -11,7 +11,7 @@ ghost use Prim.Native.Nat.{_+_, _*_, _^_, _≤_, _<_};
 ghost use lib.Dec.{eqb};
 ghost use lib.ListN.{length};
 ghost use Rattle.refusal.specs.Refused.{planRefusal, numberOf, placeOf};
-ghost use Rattle.sets.specs.Sets.{minus, full, lowest, TableOf};
+ghost use Rattle.sets.specs.Sets.{minus, full, lowest};
 ghost use Rattle.network.specs.Card.{network};
 ghost use Rattle.plan.specs.Members.{listFrom, members};
 ghost use Rattle.plan.specs.Due.{isPart, blocksOf, due, fan, toOne, pairs, routesDue};
@@ -118,9 +118,8 @@ fn check_fan(
     sources: u8,
     receivers: u8,
     f: u8,
-    lowests: &[u8; 256],
 ) -> Progress
-    requires { ⌜ (width command ≡ 9) × (before ≤ start) × (start ≤ length (now plan)) × TableOf lowest (now lowests) ⌝ }
+    requires { ⌜ (width command ≡ 9) × (before ≤ start) × (start ≤ length (now plan)) ⌝ }
     ensures { λ r. ⌜ progressOf r ≡ checkGroups n links fault (now (plan .entry)) (fan f command sources (members receivers)) start before ⌝ }
 {
     let count = (f as usize) + 1;
@@ -128,7 +127,7 @@ fn check_fan(
     let mut carriages = before;
     let mut left = receivers;
     while left != 0 {
-        let receiver = lowests[left as usize];
+        let receiver = sets::lowest(left);
         let others = sets::minus(left, sets::single(receiver));
         let group = check_group(
             n,
@@ -169,16 +168,15 @@ fn check_to_one(
     before: usize,
     quorum: u8,
     receiver: u8,
-    lowests: &[u8; 256],
 ) -> Progress
-    requires { ⌜ (before ≤ start) × (start ≤ length (now plan)) × (receiver < 8) × TableOf lowest (now lowests) ⌝ }
+    requires { ⌜ (before ≤ start) × (start ≤ length (now plan)) × (receiver < 8) ⌝ }
     ensures { λ r. ⌜ progressOf r ≡ checkGroups n links fault (now (plan .entry)) (toOne receiver (members quorum)) start before ⌝ }
 {
     let mut at = start;
     let mut carriages = before;
     let mut left = sets::minus(quorum, sets::single(receiver));
     while left != 0 {
-        let source = lowests[left as usize];
+        let source = sets::lowest(left);
         let only = sets::single(source);
         let others = sets::minus(left, only);
         let route = check_one(n, links, fault, plan, at, carriages, only, receiver);
@@ -208,28 +206,17 @@ fn check_pairs(
     start: usize,
     before: usize,
     quorum: u8,
-    lowests: &[u8; 256],
 ) -> Progress
-    requires { ⌜ (before ≤ start) × (start ≤ length (now plan)) × TableOf lowest (now lowests) ⌝ }
+    requires { ⌜ (before ≤ start) × (start ≤ length (now plan)) ⌝ }
     ensures { λ r. ⌜ progressOf r ≡ checkGroups n links fault (now (plan .entry)) (pairs (members quorum) (members quorum)) start before ⌝ }
 {
     let mut at = start;
     let mut carriages = before;
     let mut left = quorum;
     while left != 0 {
-        let receiver = lowests[left as usize];
+        let receiver = sets::lowest(left);
         let others = sets::minus(left, sets::single(receiver));
-        let row = check_to_one(
-            n,
-            links,
-            fault,
-            plan,
-            at,
-            carriages,
-            quorum,
-            receiver,
-            lowests,
-        );
+        let row = check_to_one(n, links, fault, plan, at, carriages, quorum, receiver);
         match row {
             Progress::Stopped(ground) => {
                 return Progress::Stopped(ground);
@@ -325,26 +312,13 @@ fn check_outward(
     block: &[u8],
     start: usize,
     before: usize,
-    lowests: &[u8; 256],
 ) -> Progress
-    requires { ⌜ (n ≤ 8) × (before ≤ start) × (start ≤ length (now block)) × TableOf lowest (now lowests) ⌝ }
+    requires { ⌜ (n ≤ 8) × (before ≤ start) × (start ≤ length (now block)) ⌝ }
     ensures { λ r. ⌜ progressOf r ≡ andThen (checkGroups n links fault (now (block .entry)) (fan f 19 quorum (members (minus (minus (full n) fault) quorum))) start before) (λ at carriages. checkReports n f links fault (now (block .entry)) (members fault) at carriages) ⌝ }
 {
     let sound = sets::minus(sets::full(n), fault);
     let others = sets::minus(sound, quorum);
-    let outward = check_fan(
-        n,
-        links,
-        fault,
-        block,
-        start,
-        before,
-        19,
-        quorum,
-        others,
-        f,
-        lowests,
-    );
+    let outward = check_fan(n, links, fault, block, start, before, 19, quorum, others, f);
     match outward {
         Progress::Stopped(ground) => Progress::Stopped(ground),
         Progress::Reached { at, carriages } => check_reports(
@@ -369,12 +343,11 @@ fn check_among(
     block: &[u8],
     start: usize,
     before: usize,
-    lowests: &[u8; 256],
 ) -> Progress
-    requires { ⌜ (n ≤ 8) × (before ≤ start) × (start ≤ length (now block)) × TableOf lowest (now lowests) ⌝ }
+    requires { ⌜ (n ≤ 8) × (before ≤ start) × (start ≤ length (now block)) ⌝ }
     ensures { λ r. ⌜ progressOf r ≡ andThen (checkGroups n links fault (now (block .entry)) (pairs (members quorum) (members quorum)) start before) (λ a c. andThen (checkGroups n links fault (now (block .entry)) (fan f 19 quorum (members (minus (minus (full n) fault) quorum))) a c) (λ at carriages. checkReports n f links fault (now (block .entry)) (members fault) at carriages)) ⌝ }
 {
-    let among = check_pairs(n, links, fault, block, start, before, quorum, lowests);
+    let among = check_pairs(n, links, fault, block, start, before, quorum);
     match among {
         Progress::Stopped(ground) => Progress::Stopped(ground),
         Progress::Reached { at, carriages } => check_outward(
@@ -386,7 +359,6 @@ fn check_among(
             block,
             at,
             carriages,
-            lowests,
         ),
     }
 }
@@ -400,25 +372,12 @@ fn check_rest(
     side: u8,
     quorum: u8,
     block: &[u8],
-    lowests: &[u8; 256],
 ) -> Progress
-    requires { ⌜ (n ≤ 8) × (4 ≤ length (now block)) × TableOf lowest (now lowests) ⌝ }
+    requires { ⌜ (n ≤ 8) × (4 ≤ length (now block)) ⌝ }
     ensures { λ r. ⌜ progressOf r ≡ andThen (checkGroups n links fault (now (block .entry)) (routesDue n f fault side quorum) 4 0) (λ at carriages. checkReports n f links fault (now (block .entry)) (members fault) at carriages) ⌝ }
 {
     let receivers = sets::minus(quorum, side);
-    let inward = check_fan(
-        n,
-        links,
-        fault,
-        block,
-        4,
-        0,
-        17,
-        side,
-        receivers,
-        f,
-        lowests,
-    );
+    let inward = check_fan(n, links, fault, block, 4, 0, 17, side, receivers, f);
     match inward {
         Progress::Stopped(ground) => Progress::Stopped(ground),
         Progress::Reached { at, carriages } => check_among(
@@ -430,7 +389,6 @@ fn check_rest(
             block,
             at,
             carriages,
-            lowests,
         ),
     }
 }
@@ -447,16 +405,8 @@ fn is_side(sound: u8, part: u8, side: u8) -> bool
 
 // The block that starts here, with the F and the cut that are due; the places are counted from its
 // 10 command.
-fn check_block(
-    n: u8,
-    f: u8,
-    links: [[bool; 8]; 8],
-    fault: u8,
-    part: u8,
-    block: &[u8],
-    lowests: &[u8; 256],
-) -> Progress
-    requires { ⌜ (n ≤ 8) × TableOf lowest (now lowests) ⌝ }
+fn check_block(n: u8, f: u8, links: [[bool; 8]; 8], fault: u8, part: u8, block: &[u8]) -> Progress
+    requires { ⌜ (n ≤ 8) ⌝ }
     ensures { λ r. ⌜ progressOf r ≡ checkBlock n f links (now (block .entry)) (dueOf fault part) ⌝ }
 {
     if command::is_cut(block, 0) {
@@ -476,7 +426,7 @@ fn check_block(
             return Progress::Stopped(PlanGround::Quorum(0));
         }
         if sets::within(quorum, sound) {
-            return check_rest(n, f, links, fault, side, quorum, block, lowests);
+            return check_rest(n, f, links, fault, side, quorum, block);
         }
         return Progress::Stopped(PlanGround::Quorum(0));
     }
@@ -523,9 +473,8 @@ fn check_cuts(
     start: usize,
     before: usize,
     fault: u8,
-    lowests: &[u8; 256],
 ) -> Progress
-    requires { ⌜ (n ≤ 8) × (start ≤ length (now plan)) × (before ≤ 256 * start) × (length (now plan) ≤ 1048576) × TableOf lowest (now lowests) ⌝ }
+    requires { ⌜ (n ≤ 8) × (start ≤ length (now plan)) × (before ≤ 256 * start) × (length (now plan) ≤ 1048576) ⌝ }
     ensures { λ r. ⌜ progressOf r ≡ checkBlocks n f links (now (plan .entry)) (blocksOf fault (listFrom (2 ^ n) 0 (isPart (minus (full n) fault)))) start before ⌝ }
 {
     let servers = sets::full(n);
@@ -537,7 +486,7 @@ fn check_cuts(
     for p in 0..limit {
         let part = p as u8;
         if is_part(sound, low, part) {
-            let block = check_block(n, f, links, fault, part, &plan[at..], lowests);
+            let block = check_block(n, f, links, fault, part, &plan[at..]);
             match block {
                 Progress::Stopped(ground) => {
                     return Progress::Stopped(later(ground, at));
@@ -560,7 +509,6 @@ fn check_blocks(n: u8, f: u8, links: [[bool; 8]; 8], plan: &[u8]) -> Progress
     requires { ⌜ (n ≤ 8) × (length (now plan) ≤ 1048576) ⌝ }
     ensures { λ r. ⌜ progressOf r ≡ checkBlocks n f links (now (plan .entry)) (due n f) 0 0 ⌝ }
 {
-    let lowests = sets::lowests();
     let sizes = sets::sizes();
     let limit = (sets::full(n) as u16) + 1;
     let mut at: usize = 0;
@@ -568,7 +516,7 @@ fn check_blocks(n: u8, f: u8, links: [[bool; 8]; 8], plan: &[u8]) -> Progress
     for i in 0..limit {
         let fault = i as u8;
         if sizes[fault as usize] <= f {
-            let cuts = check_cuts(n, f, links, plan, at, carriages, fault, &lowests);
+            let cuts = check_cuts(n, f, links, plan, at, carriages, fault);
             match cuts {
                 Progress::Stopped(ground) => {
                     return Progress::Stopped(ground);

@@ -4,7 +4,7 @@
 --     heard-other              what any other server hears: the rest alone
 --     Gathering, gathering-..  the loop over the reports of a block: with what is left of them, what is held becomes that of the whole
 -- Assumes nothing.
-use mathlib.Core.Path.{_≡_, refl, ap}
+use mathlib.Core.Path.{_≡_, refl}
 use mathlib.Core.Bool.{Bool, true, false, cond}
 use mathlib.Core.List.{List, [], _∷_, _++_, List·Memᴰ·head, List·Memᴰ·tail}
 use Prim.Native.Nat.{ℕ, suc, _+_, _-_, _*_, _≤_, _<_}
@@ -14,12 +14,10 @@ use lib.ListN.{length, getD}
 use lib.Dec.{eqb}
 use borrow.Author.Tests.{eq-eqb, ne-eqb, eqb-true, eqb-false}
 use Rattle.facts.proofs.Bools.{cases}
-use Rattle.sets.specs.Sets.{has, single, minus, size, lowest, TableOf}
-use Rattle.sets.proofs.Members.{has-below, minus-small}
+use Rattle.sets.specs.Sets.{has, size}
 use Rattle.sets.proofs.Counts.{size-le}
-use Rattle.sets.proofs.LowestMember.{lowest-in}
 use Rattle.plan.specs.Members.{members}
-use Rattle.plan.proofs.Lowests.{members-none, members-then}
+use Rattle.plan.proofs.Lowests.{members-none, Taken, taken-less}
 use Rattle.rules.specs.Blocks.{Carriage, reportFrom, reportsAt, reportCarriages}
 use Rattle.facts.specs.Lists.{Each}
 use Rattle.rules.proofs.Lists.{length-members}
@@ -58,41 +56,25 @@ module _ (X : ℕ) (table : List ℕ) (first : ℕ) (h : ℕ → ℕ) (before : 
     unfolding reported
     telling-done z = t .same against (adds-none against _ (λ i. rw (z, members-none) (nothing (eqb r i))))
 
-    module _ (o : left ≡ 0 → ⊥) (lowests : List ℕ) (all : TableOf lowest lowests) where
-      -- the lowest member left, as the table has it
-      abbrev m : ℕ
-      m = getD lowests left 0
+    -- the lowest reporter left is taken out
+    module _ {m others : ℕ} (k : Taken left m others) where
+      pub telling-fits : first + 8 < 18446744073709551616 → number + 1 < 18446744073709551616
+      telling-fits p = let l = taken-less k in let f = t .few in omega arith
 
-      least : m ≡ lowest left
-      least = all .entry left (t .byte)
+      module _ (x : ℕ) (q : x ≡ cond (has X m) (message table number) (h m)) (next : Against) (p : Adds against (λ (i : ℕ). cond (eqb r i) (x ∷ []) []) next) where
+        told-turn : (i : ℕ) → Told number left i ≡ cond (eqb r i) (x ∷ []) [] ++ Told (number + 1) others i
+        unfolding reported
+        told-turn i = let e = add-one number in rw (k .split, e, q) (in-turn (eqb r i) _ _)
 
-      pub telling-eight : m < 8
-      telling-eight = let a = least in let l = has-below 8 left (lowest left) (t .byte) (lowest-in left (t .byte) o) in omega arith
-
-      module _ (one : ℕ) (b : one ≡ single m) (others : ℕ) (c : others ≡ minus left one) where
-        then : members left ≡ m ∷ members others
-        then = members-then left m one others (t .byte) o least b c
-
-        pub telling-less : length (members others) < length (members left)
-        telling-less = let e = ap length then in omega arith
-
-        pub telling-fits : first + 8 < 18446744073709551616 → number + 1 < 18446744073709551616
-        telling-fits p = let l = telling-less in let f = t .few in omega arith
-
-        module _ (x : ℕ) (q : x ≡ cond (has X m) (message table number) (h m)) (next : Against) (p : Adds against (λ (i : ℕ). cond (eqb r i) (x ∷ []) []) next) where
-          told-turn : (i : ℕ) → Told number left i ≡ cond (eqb r i) (x ∷ []) [] ++ Told (number + 1) others i
-          unfolding reported
-          told-turn i = let e = add-one number in rw (then, e, q) (in-turn (eqb r i) _ _)
-
-          pub telling-goes : Telling next (number + 1) others
-          telling-goes =
-              let l = telling-less in
-              let f = t .few in
-              record {
-                byte = rw c (minus-small 8 left one (t .byte));
-                few = omega arith;
-                same = λ b a. t .same b (adds-then against next b _ _ _ p a told-turn);
-              }
+        pub telling-goes : Telling next (number + 1) others
+        telling-goes =
+            let l = taken-less k in
+            let f = t .few in
+            record {
+              byte = k .small;
+              few = omega arith;
+              same = λ b a. t .same b (adds-then against next b _ _ _ p a told-turn);
+            }
 
 -- the reports of a list of commands
 

@@ -3,7 +3,7 @@ use crate::values::Values;
 ghost use mathlib.Core.Path.{_≡_};
 ghost use Prim.Native.Nat.{_+_, _*_, _≤_, _<_};
 ghost use lib.ListN.{length};
-ghost use Rattle.sets.specs.Sets.{size, lowest, TableOf};
+ghost use Rattle.sets.specs.Sets.{size, TableOf};
 ghost use Rattle.steps.specs.Steps.{runBlock};
 ghost use Rattle.run.specs.Openings.{Opens, Ready, blockAt};
 ghost use Rattle.run.specs.Answers.{valuesOf};
@@ -86,9 +86,8 @@ pub(crate) fn run_block(
     table: &[u8],
     number: usize,
     block: &[u8],
-    lowests: &[u8; 256],
 ) -> Values
-    requires { ⌜ Ready opening (now block) × (number ≤ 1048576) × TableOf lowest (now lowests) ⌝ }
+    requires { ⌜ Ready opening (now block) × (number ≤ 1048576) ⌝ }
     ensures { λ r. ⌜ valuesOf r ≡ runBlock (opening .n) faulty (now (table .entry)) number (blockAt opening (now (block .entry))) (valuesOf before) ⌝ }
 {
     let sound = sets::minus(sets::full(opening.n), opening.fault);
@@ -98,5 +97,5 @@ pub(crate) fn run_block(
     let s3 = s2.step3(opening, faulty, table, number, block);
     let s4 = s3.step4(opening, faulty, table, number, block);
     let s5 = s4.step5(sound, kept);
-    s5.step6(opening, faulty, table, number, block, lowests)
+    s5.step6(opening, faulty, table, number, block)
 }

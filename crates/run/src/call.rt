@@ -42,14 +42,13 @@ fn run_blocks(
     ensures { λ r. ⌜ valuesOf r ≡ runBlocks n faulty (now (table .entry)) 0 (decodeBlocks n f (now (plan .entry)) blocks) (valuesOf start) ⌝ }
 {
     let sizes = sets::sizes();
-    let lowests = sets::lowests();
     let mut values = start;
     let mut at: usize = 0;
     let mut number: usize = 0;
     for k in 0..blocks {
         let part = &plan[at..];
         let opening = block::read_opening(n, f, part, &sizes);
-        let next = block::run_block(values, opening, faulty, table, number, part, &lowests);
+        let next = block::run_block(values, opening, faulty, table, number, part);
         values = next;
         at = at + opening.bytes();
         number = number + opening.carriages();

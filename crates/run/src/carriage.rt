@@ -5,7 +5,7 @@ ghost use mathlib.Core.List.{[], _∷_, map};
 ghost use Prim.Native.Nat.{ℕ, _+_, _*_, _/_, _%_, _≤_, _<_};
 ghost use lib.Dec.{eqb};
 ghost use lib.ListN.{length, getD, take};
-ghost use Rattle.sets.specs.Sets.{has, lowest, TableOf};
+ghost use Rattle.sets.specs.Sets.{has};
 ghost use Rattle.plan.specs.Members.{members};
 ghost use Rattle.route.specs.Route.{path};
 ghost use Rattle.rules.specs.Blocks.{routesAt, reportsAt, carriageOf, reportCarriages};
@@ -179,9 +179,8 @@ fn over_report(
     before: Against,
     receiver: u8,
     reporters: u8,
-    lowests: &[u8; 256],
 ) -> Against
-    requires { ⌜ (first + 8 < 18446744073709551616) × (receiver < 8) × TableOf lowest (now lowests) ⌝ }
+    requires { ⌜ (first + 8 < 18446744073709551616) × (receiver < 8) ⌝ }
     ensures { λ r. ⌜ Adds before (λ (i : ℕ). cond (eqb receiver i) (reported faulty (now (table .entry)) first (held (bitsOf ones)) (members reporters)) []) r ⌝ }
 {
     let mut zero = before.zero;
@@ -189,7 +188,7 @@ fn over_report(
     let mut number = first;
     let mut left = reporters;
     while left != 0 {
-        let m = lowests[left as usize];
+        let m = sets::lowest(left);
         let others = sets::minus(left, sets::single(m));
         let arrival = reported(faulty, table, number, ones, m);
         let next = spoken(zero, one, receiver, arrival);
@@ -211,9 +210,8 @@ pub(crate) fn over_reports(
     place: usize,
     count: usize,
     each: usize,
-    lowests: &[u8; 256],
 ) -> Against
-    requires { ⌜ (place + 3 * count ≤ length (now block)) × Each (ReportOf each) (reportsAt (now block) place count) × (each ≤ 8) × (first + 8 * count + 8 < 18446744073709551616) × TableOf lowest (now lowests) ⌝ }
+    requires { ⌜ (place + 3 * count ≤ length (now block)) × Each (ReportOf each) (reportsAt (now block) place count) × (each ≤ 8) × (first + 8 * count + 8 < 18446744073709551616) ⌝ }
     ensures { λ r. ⌜ Speaks (heard faulty (now (table .entry)) first (held (bitsOf ones)) (reportCarriages (reportsAt (now (block .entry)) place count))) r ⌝ }
 {
     let mut against = Against { zero: 0, one: 0 };
@@ -222,16 +220,7 @@ pub(crate) fn over_reports(
     for k in 0..count {
         let receiver = block[at + 1];
         let reporters = block[at + 2];
-        let next = over_report(
-            faulty,
-            table,
-            number,
-            ones,
-            against,
-            receiver,
-            reporters,
-            lowests,
-        );
+        let next = over_report(faulty, table, number, ones, against, receiver, reporters);
         against = next;
         number = number + each;
         at = at + 3;

@@ -7,7 +7,7 @@ ghost use mathlib.Core.Path.{_≡_};
 ghost use mathlib.Core.Bool.{cond};
 ghost use mathlib.Core.List.{map};
 ghost use Prim.Native.Nat.{ℕ, _+_, _≤_};
-ghost use Rattle.sets.specs.Sets.{has, minus, full, lowest, TableOf};
+ghost use Rattle.sets.specs.Sets.{has, minus, full};
 ghost use Rattle.rules.specs.Blocks.{carriageOf, reportCarriages};
 ghost use Rattle.steps.specs.Steps.{values, step1, gather, compare, step5, step6};
 ghost use Rattle.run.specs.Speaking.{workOf, bitsOf, worksOf, replaced, alike, settled};
@@ -173,9 +173,8 @@ impl Values {
         table: &[u8],
         number: usize,
         block: &[u8],
-        lowests: &[u8; 256],
     ) -> Values
-        requires { ⌜ Ready opening (now block) × (number ≤ 1048576) × TableOf lowest (now lowests) ⌝ }
+        requires { ⌜ Ready opening (now block) × (number ≤ 1048576) ⌝ }
         ensures { λ r. ⌜ (bitsOf (r .v) ≡ step6 faulty (now (table .entry)) (number + opening .inward + opening .among + opening .outward) (reportCarriages (blockAt opening (now (block .entry)) .reports)) (opening .fault) (bitsOf (self .v))) × (r .sure ≡ self .sure) × (r .t ≡ self .t) ⌝ }
     {
         let earlier = opening.inward + opening.among + opening.outward;
@@ -190,7 +189,6 @@ impl Values {
             place,
             opening.reports,
             each,
-            lowests,
         );
         let told = sets::meet(opening.fault, alike(against));
         let v = replaced(self.v, told, against.zero);

@@ -2,7 +2,7 @@
 -- Counts     counts below n, and sizes
 -- Apart      the next set that is apart from a set
 -- LowestMember   the lowest member
--- Tables     the two tables of 256 entries, each with the one test that is computed over it
+-- Tables     the table of sizes, of 256 entries, with the one test that is computed over it
 pub mod Members
 pub mod Counts
 pub mod Apart

@@ -1,8 +1,6 @@
 // A set of servers is one byte: server i stands for 2^i.
-mod lowest_table;
 mod size_table;
 
-use crate::lowest_table::LOWEST;
 use crate::size_table::SIZES;
 ghost use mathlib.Core.Path.{_≡_};
 ghost use Rattle.sets.specs.Sets.{has, single, full, union, meet, minus, within, size, lowest, next, TableOf};
@@ -72,13 +70,6 @@ pub fn sizes() -> [u8; 256]
     SIZES
 }
 
-// The table of lowest members, for a caller that looks many of them up.
-pub fn lowests() -> [u8; 256]
-    ensures { λ r. ⌜ TableOf lowest r ⌝ }
-{
-    LOWEST
-}
-
 pub fn size(s: u8) -> u8
     ensures { λ r. ⌜ r ≡ size s ⌝ }
 {
@@ -89,7 +80,7 @@ pub fn size(s: u8) -> u8
 pub fn lowest(s: u8) -> u8
     ensures { λ r. ⌜ r ≡ lowest s ⌝ }
 {
-    LOWEST[s as usize]
+    u8::trailing_zeros(s) as u8
 }
 
 // The least set after s that has no server of busy, for an s that has none; 256 where there is none among the sets of eight servers.

@@ -104,7 +104,7 @@ pub struct Version {
     pub patch: u64,
 }
 
-/// `0.3.0`.
+/// `0.3.1`.
 impl Display for Version {
     fn fmt(&self, out: &mut Formatter) -> fmt::Result {
         write!(out, "{}.{}.{}", self.major, self.minor, self.patch)

@@ -8,7 +8,7 @@ use agreement::{read_card, split_test, ServerSet};
 use generate::{all_links, complete_card};
 
 /// The bytes of single servers, of a few sets and of V, by the rows of cards; and how
-/// many sets there are, which is the length of the two tables of sets.
+/// many sets there are, which is the length of the table of sizes.
 pub fn stated(documents: &Documents) -> Held {
     let most = SIZES.n.most();
     let single = |server| format!("{server} for {}", byte(row_of(&[server])));
@@ -24,11 +24,11 @@ pub fn stated(documents: &Documents) -> Held {
         format!("V is {all} for n {}.", SIZES.n),
         format!("server 2 alone is {third}."),
         format!("links are held as {eight} rows of {eight} marks"),
-        format!("two tables of {sets} entries each."),
-        format!("The lowest member of the empty set is {most}, which is no server."),
+        format!("Sizes of sets come from a table of {sets} entries."),
+        format!("that of the empty set is {most}, which is no server."),
     ])?;
     documents.theorems.says_all(&[
-        format!("Tables of {sets} entries"),
+        format!("The table of {sets} entries"),
         "sets of V: as numbers below 2^n".to_string(),
     ])?;
     documents.header.says("server i standing for 2^i.")

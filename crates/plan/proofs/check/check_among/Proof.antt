@@ -30,7 +30,7 @@ enum-known-among-2 c = search needs
 check-outward-requires : tie.Need-check-outward-requires
 check-outward-requires c κs = let a = c .before .before .before .before .before .args in
     let x = code-bound 1 (length (a .block .now)) _ (pairs-bound (a .n) (a .links) (a .fault) (a .block .now) (members (a .quorum)) (members (a .quorum)) (a .start) (a .before) (c .before .before .before .before .before .pre .2) (omega arith)) _ (c .before .before .before .check-pairs .ensures) _ _ (c .before .among2 .given .1) in
-    (c .before .before .before .before .before .pre .0, omega arith, x .0, c .before .before .before .before .before .pre .3)
+    (c .before .before .before .before .before .pre .0, omega arith, x .0)
 
 returns : tie.Need-returns
 returns c = let a = c .before .before .before .before .before .args in

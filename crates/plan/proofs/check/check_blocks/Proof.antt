@@ -11,17 +11,13 @@ use Rattle.plan.proofs.check.check_blocks.Reads as reads
 use Rattle.plan.proofs.check.check_blocks.Lts as lts
 use Rattle.plan.proofs.check.check_cuts.Reads as check-cuts-reads
 use Rattle.sets.proofs.full.Reads as full-reads
-use Rattle.sets.proofs.lowests.Reads as lowests-reads
 use Rattle.sets.proofs.sizes.Reads as sizes-reads
 
 abbrev Inv-loop : tie.InvT-loop
-Inv-loop n f links plan lowests sizes limit at₀ carriages₀ i₀ at carriages i = Going n f links plan limit i at carriages
+Inv-loop n f links plan sizes limit at₀ carriages₀ i₀ at carriages i = Going n f links plan limit i at carriages
 
 abbrev μ-loop : tie.MeasureT-loop
-μ-loop n f links plan lowests sizes limit at₀ carriages₀ i₀ at carriages i = limit - i
-
-lowests-requires : tie.Need-lowests-requires Inv-loop μ-loop
-lowests-requires c κs = search needs
+μ-loop n f links plan sizes limit at₀ carriages₀ i₀ at carriages i = limit - i
 
 sizes-requires : tie.Need-sizes-requires Inv-loop μ-loop
 sizes-requires c κs = search needs
@@ -36,7 +32,7 @@ add-limit : tie.Need-add-limit Inv-loop μ-loop
 add-limit c = search needs
 
 loop-holds : tie.Need-loop-holds Inv-loop μ-loop
-loop-holds c = going-starts _ _ _ _ _ (c .before .before .before .before .pre .0) (c .full .ensures)
+loop-holds c = going-starts _ _ _ _ _ (c .before .before .before .pre .0) (c .full .ensures)
 
 cast-fault : tie.Need-cast-fault Inv-loop μ-loop
 cast-fault c = search needs
@@ -54,7 +50,7 @@ enum-known-cuts : tie.Need-enum-known-cuts Inv-loop μ-loop
 enum-known-cuts c = search needs
 
 returns : tie.Need-returns Inv-loop μ-loop
-returns c = let i = c .before .before .before .before .before .before in going-halts (i .before .loop .inv) (i .loop-test .taken) (i .before .before .before .sizes .ensures) (c .before .before .before .before .before .if1 .taken) (c .before .before .before .check-cuts .ensures) (c .before .cuts .given .1)
+returns c = let i = c .before .before .before .before .before in going-halts (i .before .loop .inv) (i .loop-test .taken) (i .before .before .before .sizes .ensures) (c .before .before .before .before .if1 .taken) (c .before .before .before .check-cuts .ensures) (c .before .cuts .given .1)
 
 enum-known-cuts-2 : tie.Need-enum-known-cuts-2 Inv-loop μ-loop
 enum-known-cuts-2 c = search needs
@@ -69,7 +65,7 @@ loop-again : tie.Need-loop-again Inv-loop μ-loop
 loop-again c = let g = c .before .before .loop .inv in
     let h = c .before .loop-test .taken in
     let t = c .before .before .before .before .sizes .ensures in
-    ⊎-elim (λ w. rw (w .6, w .7) (going-moves g h t (w .0 .taken) (w .2 .ensures) (omega arith) (w .4 .given .1))) (λ w. rw (w .1, w .2) (going-skips g h t (w .0 .left))) (c .if1 .came)
+    ⊎-elim (λ w. rw (w .5, w .6) (going-moves g h t (w .0 .taken) (w .1 .ensures) (omega arith) (w .3 .given .1))) (λ w. rw (w .1, w .2) (going-skips g h t (w .0 .left))) (c .if1 .came)
 
 returns-2 : tie.Need-returns-2 Inv-loop μ-loop
 returns-2 c = going-ends (c .before .loop .inv) (c .loop-test .left)
@@ -80,7 +76,6 @@ check-blocks-spec =
     (tie.spec
     Inv-loop
     μ-loop
-    lowests-requires
     sizes-requires
     full-requires
     cast-limit

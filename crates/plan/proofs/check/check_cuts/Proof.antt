@@ -18,10 +18,10 @@ use Rattle.sets.proofs.lowest.Reads as lowest-reads
 use Rattle.sets.proofs.minus.Reads as minus-reads
 
 abbrev Inv-loop : tie.InvT-loop
-Inv-loop n f links plan start before fault lowests servers sound low limit at₀ carriages₀ p₀ at carriages p = Cutting n f links plan fault start before limit sound p at carriages
+Inv-loop n f links plan start before fault servers sound low limit at₀ carriages₀ p₀ at carriages p = Cutting n f links plan fault start before limit sound p at carriages
 
 abbrev μ-loop : tie.MeasureT-loop
-μ-loop n f links plan start before fault lowests servers sound low limit at₀ carriages₀ p₀ at carriages p =
+μ-loop n f links plan start before fault servers sound low limit at₀ carriages₀ p₀ at carriages p =
     limit - p
 
 -- p is a part of V−F: the block that starts here is next, and then those of the parts after p

@@ -33,7 +33,7 @@ minus-requires-2 c κs = search needs
 
 check-fan-requires : tie.Need-check-fan-requires
 unfolding width
-check-fan-requires c κs = (refl, c .before .before .before .before .pre .1, c .before .before .before .before .pre .2, c .before .before .before .before .pre .3)
+check-fan-requires c κs = (refl, c .before .before .before .before .pre .1, c .before .before .before .before .pre .2)
 
 enum-known-outward : tie.Need-enum-known-outward
 enum-known-outward c = search needs

@@ -25,7 +25,7 @@ minus-requires c κs = search needs
 
 check-fan-requires : tie.Need-check-fan-requires
 unfolding width
-check-fan-requires c κs = (refl, omega arith, c .before .before .pre .1, c .before .before .pre .2)
+check-fan-requires c κs = (refl, omega arith, c .before .before .pre .1)
 
 enum-known-inward : tie.Need-enum-known-inward
 enum-known-inward c = search needs
@@ -37,7 +37,7 @@ check-among-requires : tie.Need-check-among-requires
 unfolding width
 check-among-requires c κs = let a = c .before .before .before .before .before .before .args in
     let x = code-bound 1 (length (a .block .now)) _ (fan-bound (a .n) (a .links) (a .fault) (a .block .now) (a .f) 17 (a .side) refl _ 4 0 (c .before .before .before .before .before .before .pre .1) (omega arith)) _ (c .before .before .before .check-fan .ensures) _ _ (c .before .inward2 .given .1) in
-    (c .before .before .before .before .before .before .pre .0, omega arith, x .0, c .before .before .before .before .before .before .pre .2)
+    (c .before .before .before .before .before .before .pre .0, omega arith, x .0)
 
 returns : tie.Need-returns
 returns c = let a = c .before .before .before .before .before .before .args in

@@ -3,7 +3,7 @@
 use mathlib.Core.Path.{_≡_, sym, _∙_}
 use mathlib.Core.Bool.{false}
 use borrow.Author.Needs.{needs}
-use lib.ListN.{length, getD}
+use lib.ListN.{length}
 use Rattle.sets.specs.Sets.{has}
 use Rattle.plan.specs.Members.{members}
 use Rattle.plan.specs.Due.{toOne}
@@ -17,24 +17,25 @@ use Rattle.plan.proofs.check.check_to_one.Tie as tie
 use Rattle.plan.proofs.check.check_to_one.Reads as reads
 use Rattle.plan.proofs.check.check_to_one.Lts as lts
 use Rattle.plan.proofs.check.check_one.Reads as check-one-reads
+use Rattle.sets.proofs.lowest.Reads as lowest-reads
 use Rattle.sets.proofs.minus.Reads as minus-reads
 use Rattle.sets.proofs.single.Reads as single-reads
 
 abbrev Inv-loop : tie.InvT-loop
-Inv-loop n links fault plan start before quorum receiver lowests at₀ carriages₀ left₀ at carriages left =
+Inv-loop n links fault plan start before quorum receiver at₀ carriages₀ left₀ at carriages left =
     (has left receiver ≡ false) × Taking 1 (length plan) (toOneStep n links fault plan receiver) left (checkGroups n links fault plan (toOne receiver (members quorum)) start before) at carriages
 
 abbrev μ-loop : tie.MeasureT-loop
-μ-loop n links fault plan start before quorum receiver lowests at₀ carriages₀ left₀ at carriages left =
+μ-loop n links fault plan start before quorum receiver at₀ carriages₀ left₀ at carriages left =
     length (members left)
 
 -- the lowest of the sources that are left is taken out of them
-first : (c : tie.After-minus2 Inv-loop μ-loop) → let l = c .before .before .before .before .loop in Taken (l .left) (getD (c .before .before .before .before .before .before .before .before .args .lowests .now) (l .left) 0) (c .minus2 .result)
-first c = take-lowest (c .before .before .before .before .loop .inv .1 .small) (c .before .before .before .loop-test .taken) (c .before .before .before .before .before .before .before .before .pre .3) (c .before .single2 .ensures) (c .minus2 .ensures)
+first : (c : tie.After-minus2 Inv-loop μ-loop) → let l = c .before .before .before .before .loop in Taken (l .left) (c .before .before .lowest .result) (c .minus2 .result)
+first c = take-lowest (c .before .before .before .before .loop .inv .1 .small) (c .before .before .before .loop-test .taken) (c .before .before .lowest .ensures) (c .before .single2 .ensures) (c .minus2 .ensures)
 
 -- it is not the receiver, so its route is a step
 stepped : (c : tie.After-check-one Inv-loop μ-loop) → let a = c .before .before .before .before .before .before .before .before .before .args in let l = c .before .before .before .before .before .loop in
-    progressOf (c .check-one .result) ≡ toOneStep (a .n) (a .links) (a .fault) (a .plan .now) (a .receiver) (getD (a .lowests .now) (l .left) 0) (l .at) (l .carriages)
+    progressOf (c .check-one .result) ≡ toOneStep (a .n) (a .links) (a .fault) (a .plan .now) (a .receiver) (c .before .before .before .lowest .result) (l .at) (l .carriages)
 stepped c = toOne-other _ _ _ _ _ _ _ _ (out-other (first (c .before)) (c .before .before .before .before .before .loop .inv .0)) _ (c .before .before .single2 .ensures) _ (c .check-one .ensures)
 
 single-requires : tie.Need-single-requires Inv-loop μ-loop
@@ -48,11 +49,8 @@ loop-holds c = let s = c .before .before .before in
     let row = row-others _ _ _ _ _ _ _ _ (s .pre .2) (c .before .single .ensures) (c .minus .ensures) _ _ in
     (out-first _ _ _ _ (s .pre .2) (c .before .single .ensures) (c .minus .ensures), taking-starts (search needs) (s .pre .0) (s .pre .1) (toOne-bound _ _ _ _ _) (toOne-walk _ _ _ _ _ _ _ _ ∙ sym row))
 
-cast-source : tie.Need-cast-source Inv-loop μ-loop
-cast-source c = search needs
-
-element-copy-out-source : tie.Need-element-copy-out-source Inv-loop μ-loop
-element-copy-out-source c = search needs
+lowest-requires : tie.Need-lowest-requires Inv-loop μ-loop
+lowest-requires c κs = search needs
 
 single-requires-2 : tie.Need-single-requires-2 Inv-loop μ-loop
 single-requires-2 c κs = search needs
@@ -90,8 +88,7 @@ check-to-one-spec =
     single-requires
     minus-requires
     loop-holds
-    cast-source
-    element-copy-out-source
+    lowest-requires
     single-requires-2
     minus-requires-2
     check-one-requires

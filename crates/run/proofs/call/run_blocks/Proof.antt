@@ -14,27 +14,23 @@ use Rattle.run.proofs.block.Opening.bytes.Reads as bytes-reads
 use Rattle.run.proofs.block.Opening.carriages.Reads as carriages-reads
 use Rattle.run.proofs.block.read_opening.Reads as read-opening-reads
 use Rattle.run.proofs.block.run_block.Reads as run-block-reads
-use Rattle.sets.proofs.lowests.Reads as lowests-reads
 use Rattle.sets.proofs.sizes.Reads as sizes-reads
 
 abbrev Inv-loop : tie.InvT-loop
-Inv-loop n f blocks faulty table plan sizes lowests values₀ at₀ number₀ k₀ values at number k =
+Inv-loop n f blocks faulty table plan sizes values₀ at₀ number₀ k₀ values at number k =
     Along n f faulty table plan blocks (valuesOf values₀) k at number (bitsOf (values .v)) (worksOf (values .sure) (values .t))
 
 abbrev μ-loop : tie.MeasureT-loop
-μ-loop n f blocks faulty table plan sizes lowests values₀ at₀ number₀ k₀ values at number k = blocks - k
+μ-loop n f blocks faulty table plan sizes values₀ at₀ number₀ k₀ values at number k = blocks - k
 
 -- once its opening is read, the block is known to end inside the plan
 room : (c : tie.After-read-opening Inv-loop μ-loop) →
     let l = c .before .before .before .before in
-    Room (l .before .before .before .before .before .args .plan .now) (l .loop .at) (l .loop .number) (c .read-opening .result)
+    Room (l .before .before .before .before .args .plan .now) (l .loop .at) (l .loop .number) (c .read-opening .result)
 room c = search block-room
 
 sizes-requires : tie.Need-sizes-requires Inv-loop μ-loop
 sizes-requires c κs = search needs
-
-lowests-requires : tie.Need-lowests-requires Inv-loop μ-loop
-lowests-requires c κs = search needs
 
 loop-holds : tie.Need-loop-holds Inv-loop μ-loop
 loop-holds c = search blocks-start
@@ -57,16 +53,16 @@ run-block-requires : tie.Need-run-block-requires Inv-loop μ-loop
 run-block-requires c κs = search (needs, block-ready)
 
 bytes-requires : tie.Need-bytes-requires Inv-loop μ-loop
-bytes-requires c κs = omega (arith, room (c .before .before))
+bytes-requires c κs = omega (arith, room (c .before))
 
 add-at : tie.Need-add-at Inv-loop μ-loop
-add-at c = search (needs, room (c .before .before .before))
+add-at c = search (needs, room (c .before .before))
 
 carriages-requires : tie.Need-carriages-requires Inv-loop μ-loop
-carriages-requires c κs = search (needs, room (c .before .before .before))
+carriages-requires c κs = search (needs, room (c .before .before))
 
 add-number : tie.Need-add-number Inv-loop μ-loop
-add-number c = search (needs, room (c .before .before .before .before))
+add-number c = search (needs, room (c .before .before .before))
 
 add-k : tie.Need-add-k Inv-loop μ-loop
 add-k c = search needs
@@ -87,7 +83,6 @@ run-blocks-spec =
     Inv-loop
     μ-loop
     sizes-requires
-    lowests-requires
     loop-holds
     sub-part
     part-part-start

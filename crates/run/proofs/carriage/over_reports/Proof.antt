@@ -13,11 +13,11 @@ use Rattle.run.proofs.carriage.over_reports.Lts as lts
 use Rattle.run.proofs.carriage.over_report.Reads as over-report-reads
 
 abbrev Inv-loop : tie.InvT-loop
-Inv-loop faulty table first ones block place count each lowests against₀ at₀ number₀ k₀ against at number k =
+Inv-loop faulty table first ones block place count each against₀ at₀ number₀ k₀ against at number k =
     Gathering faulty table first (held (bitsOf ones)) block place count each against at number k
 
 abbrev μ-loop : tie.MeasureT-loop
-μ-loop faulty table first ones block place count each lowests against₀ at₀ number₀ k₀ against at number k = count - k
+μ-loop faulty table first ones block place count each against₀ at₀ number₀ k₀ against at number k = count - k
 
 loop-holds : tie.Need-loop-holds Inv-loop μ-loop
 loop-holds c = gathering-starts _ _ _ _ _ _ _ _ (c .before .before .pre .1)
@@ -35,7 +35,7 @@ shared-slice-read-reporters : tie.Need-shared-slice-read-reporters Inv-loop μ-l
 shared-slice-read-reporters c = search needs
 
 over-report-requires : tie.Need-over-report-requires Inv-loop μ-loop
-over-report-requires c κs = let l = c .before .before .before .loop in (search needs, gathering-eight _ _ _ _ _ _ _ _ _ (l .at) _ _ (l .inv) (c .before .before .loop-test .taken), c .before .before .before .before .before .before .pre .4)
+over-report-requires c κs = let l = c .before .before .before .loop in (search needs, gathering-eight _ _ _ _ _ _ _ _ _ (l .at) _ _ (l .inv) (c .before .before .loop-test .taken))
 
 add-number : tie.Need-add-number Inv-loop μ-loop
 add-number c = search needs

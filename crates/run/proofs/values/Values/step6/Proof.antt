@@ -41,7 +41,7 @@ over-reports-requires c κs =
     let few = p .0 .bound in
     let short = p .0 .short in
     let most = reports-few _ _ (p .0) in
-    (omega arith, reports-servers _ _ (p .0), omega arith, omega arith, p .2)
+    (omega arith, reports-servers _ _ (p .0), omega arith, omega arith)
 
 alike-requires : tie.Need-alike-requires
 alike-requires c κs = search needs
