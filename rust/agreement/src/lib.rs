@@ -25,7 +25,8 @@
 //! has `libagreement.a`, such as the `lib` of `sh tools/install PREFIX`. The archive is
 //! for x86-64 Linux.
 //!
-//! All `unsafe` code of the workspace is in this crate, one call a block.
+//! All `unsafe` code that is built on is in this crate, one call a block; the benchmark has
+//! some of its own, for an older archive that it times beside this one.
 
 #![deny(unsafe_op_in_unsafe_fn)]
 

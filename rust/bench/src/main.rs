@@ -8,9 +8,15 @@
 //! Both are called in one process on the same bytes, by turns, and the middle one of
 //! many rounds is what counts, for the ratio too, so that a busy machine disturbs both
 //! alike.
+//!
+//! Where `AGREEMENT_BEFORE` is the absolute path of an older libagreement.a, the same
+//! tables follow with that one in the reference's place.
 
-#![forbid(unsafe_code)]
+#![deny(unsafe_code)]
 
+#[cfg(before)]
+#[allow(unsafe_code)]
+mod before;
 mod cards;
 mod clock;
 mod plans;
@@ -28,7 +34,7 @@ fn main() {
     }
     println!("Times in nanoseconds per call, the median of {ROUNDS} rounds by turns; the ratio is");
     println!("the median of the rounds' ratios, so the two times need not divide to it exactly.");
-    println!("Library and reference are both built for release, in one process, on one input;");
+    println!("Both are built for release, in one process, on one input;");
     println!("a call leaves nothing behind, and each that writes gets a fresh buffer.");
     let cases = cards::cases();
     for case in &cases {
@@ -42,9 +48,15 @@ fn main() {
     for case in &runs {
         case.assert_answers();
     }
+    beside_reference(&cases, &plans, &runs);
+    #[cfg(before)]
+    before::tables(&cases, &plans, &runs);
+}
+
+fn beside_reference(cases: &[cards::Case], plans: &[plans::Case], runs: &[runs::Case]) {
     println!();
-    heading("split test");
-    for case in &cases {
+    heading("split test", "reference");
+    for case in cases {
         row(
             case.name,
             || agreement::split_test(black_box(&case.card)),
@@ -54,8 +66,8 @@ fn main() {
     println!();
     // Both answer with n, f and all links, the library with a set for each server, the
     // reference with a mark for each pair.
-    heading("card reader");
-    for case in &cases {
+    heading("card reader", "reference");
+    for case in cases {
         row(
             case.name,
             || agreement::read_card(black_box(&case.card)),
@@ -65,8 +77,8 @@ fn main() {
     println!();
     // Both read the card first and write into a fresh buffer that is long enough; the
     // reference makes the clean card in memory of its own before.
-    heading("card printed back");
-    for case in &cases {
+    heading("card printed back", "reference");
+    for case in cases {
         row(
             case.name,
             || printed(black_box(&case.card), agreement::print_card),
@@ -74,8 +86,8 @@ fn main() {
         );
     }
     println!();
-    heading("plan check");
-    for case in &plans {
+    heading("plan check", "reference");
+    for case in plans {
         row(
             case.name,
             || agreement::check_plan(black_box(&case.card), black_box(&case.plan)),
@@ -84,8 +96,8 @@ fn main() {
     }
     println!();
     // Both check card and plan first, so most of a run is the plan check.
-    heading("run");
-    for case in &runs {
+    heading("run", "reference");
+    for case in runs {
         row(
             case.name,
             || black_box(case).library(),
@@ -100,15 +112,16 @@ fn printed<A>(card: &[u8], print: impl Fn(&[u8], &mut [u8]) -> A) -> (A, [u8; CL
     (print(card, &mut lent), lent)
 }
 
-fn heading(function: &str) {
+fn heading(function: &str, other: &str) {
     println!(
-        "{function:<44} {:>10} {:>10} {:>15}",
-        "ours", "reference", "ours/reference"
+        "{function:<44} {:>10} {other:>10} {:>15}",
+        "ours",
+        format!("ours/{other}")
     );
 }
 
-fn row<A, B>(name: &str, ours: impl Fn() -> A, reference: impl Fn() -> B) {
-    let times = nanoseconds_per_call(ours, reference);
+fn row<A, B>(name: &str, ours: impl Fn() -> A, other: impl Fn() -> B) {
+    let times = nanoseconds_per_call(ours, other);
     println!(
         "{name:<44} {:>10.1} {:>10.1} {:>15.3}",
         times.one, times.other, times.ratio

@@ -13,16 +13,16 @@ type OfLibrary = (Result<agreement::Totals, agreement::Refusal>, [u8; 8]);
 type OfReference = (Result<Totals, Refusal>, [u8; 8]);
 
 /// What the lent bytes start out as.
-const UNTOUCHED: u8 = 9;
+pub const UNTOUCHED: u8 = 9;
 
 /// A call to run with a name for the table and what it comes to.
 pub struct Case {
     pub name: &'static str,
-    card: Vec<u8>,
-    plan: Vec<u8>,
-    inputs: Vec<u8>,
-    faulty: u8,
-    table: Vec<u8>,
+    pub card: Vec<u8>,
+    pub plan: Vec<u8>,
+    pub inputs: Vec<u8>,
+    pub faulty: u8,
+    pub table: Vec<u8>,
     totals: Totals,
     lent: [u8; 8],
 }
