@@ -24,6 +24,8 @@ fn main() {
     );
     println!("cargo:rustc-link-search=native={}", directory.display());
     println!("cargo:rustc-link-lib=static=agreement");
+    // For a build script of a crate above: DEP_AGREEMENT_DIRECTORY.
+    println!("cargo:directory={}", directory.display());
 }
 
 /// The directory that the variable names, which has to be there in full: cargo runs

@@ -1,7 +1,7 @@
 //! Has an older archive of the library linked beside the one that is timed, where
 //! `AGREEMENT_BEFORE` names one. The functions of each get a prefix, so that both can be
-//! called in one process, and every function starts a line of the cache, so that where
-//! the linker puts them makes no difference.
+//! called in one process, and each function starts a line of the cache, so that it makes
+//! less difference where the linker puts it.
 
 use std::env;
 use std::path::{Path, PathBuf};
@@ -17,33 +17,35 @@ fn main() {
         return;
     };
     // Cargo runs this script in the crate's folder, not where the caller stands.
-    if !older.is_absolute() || !older.is_file() {
+    if !older.is_absolute() {
         refuse(&format!(
-            "{OLDER_VARIABLE} has to be the absolute path of an older libagreement.a, and is {}",
-            older.display()
+            "{OLDER_VARIABLE} is the relative path {:?}, and has to be absolute",
+            older.display().to_string()
         ));
     }
-    let this_crate = env::var_os("CARGO_MANIFEST_DIR").expect("cargo tells where the crate is");
-    let newer = Path::new(&this_crate).join("../../target/staticlib/libagreement.a");
+    let directory = env::var_os("DEP_AGREEMENT_DIRECTORY").expect("the wrapper tells its archive");
+    let newer = PathBuf::from(directory).join("libagreement.a");
     let out = PathBuf::from(env::var_os("OUT_DIR").expect("cargo tells where to write"));
     println!("cargo:rustc-link-search=native={}", out.display());
-    for (archive, name) in [(older, "before"), (newer, "now")] {
-        println!("cargo:rerun-if-changed={}", archive.display());
-        let renamed = Command::new("objcopy")
-            .arg(format!("--prefix-symbols={name}_"))
-            .arg("--set-section-alignment=.text.*=64")
-            .arg(&archive)
-            .arg(out.join(format!("lib{name}.a")))
-            .status();
-        if !renamed.is_ok_and(|status| status.success()) {
-            refuse(&format!(
-                "objcopy of GNU binutils failed on {}",
-                archive.display()
-            ));
-        }
-        println!("cargo:rustc-link-lib=static={name}");
-    }
+    renamed(&older, "before", &out);
+    renamed(&newer, "now", &out);
     println!("cargo:rustc-cfg=before");
+}
+
+/// Has a copy of the archive linked in which every name has the prefix.
+fn renamed(archive: &Path, prefix: &str, out: &Path) {
+    println!("cargo:rerun-if-changed={}", archive.display());
+    let objcopy = Command::new("objcopy")
+        .arg(format!("--prefix-symbols={prefix}_"))
+        .arg("--set-section-alignment=.text.*=64")
+        .arg(archive)
+        .arg(out.join(format!("lib{prefix}.a")))
+        .status();
+    match objcopy {
+        Ok(status) if status.success() => println!("cargo:rustc-link-lib=static={prefix}"),
+        Ok(_) => refuse(&format!("objcopy cannot copy {}", archive.display())),
+        Err(why) => refuse(&format!("objcopy of GNU binutils does not start: {why}")),
+    }
 }
 
 fn refuse(why: &str) -> ! {

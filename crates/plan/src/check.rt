@@ -406,7 +406,7 @@ fn is_side(sound: u8, part: u8, side: u8) -> bool
 // The block that starts here, with the F and the cut that are due; the places are counted from its
 // 10 command.
 fn check_block(n: u8, f: u8, links: [[bool; 8]; 8], fault: u8, part: u8, block: &[u8]) -> Progress
-    requires { ⌜ (n ≤ 8) ⌝ }
+    requires { ⌜ n ≤ 8 ⌝ }
     ensures { λ r. ⌜ progressOf r ≡ checkBlock n f links (now (block .entry)) (dueOf fault part) ⌝ }
 {
     if command::is_cut(block, 0) {

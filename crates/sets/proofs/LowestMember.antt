@@ -2,21 +2,20 @@
 --     firstIn-found, firstIn-least    a search ends at a member, or with none found; no member is passed
 --     lowest-least, lowest-in         no member is below the lowest, and a set that is not empty has it
 --     lowest-empty                    8 for the empty set
---     trailing-lowest                 it is how many zeros stand below the lowest digit that is set; first-trailing, for every width
+--     trailing-lowest                 it is how many zeros stand below the lowest digit that is set
 -- Assumes nothing.
 use mathlib.Core.Path.{_≡_, sym, ap, _∙_}
 use mathlib.Core.Logic.{_⊎_, inl, inr, ⊎-elim}
 use mathlib.Core.Bool.{true, false, cond}
 use Prim.Native.Nat.{ℕ, zero, suc, _+_, _/_, _%_, _^_, _≤_, _<_}
-use native.Mathlib.Nat.{mod-lt}
 use native.Mathlib.Numerals.{add-one}
 use native.Mathlib.Omega.{arith}
 use lib.Count.{under, trailingZeros}
-use lib.Dec.{eqb, lit<}
+use lib.Dec.{eqb}
 use lib.Pow.{shr-shr}
 use Rattle.facts.proofs.Bools.{cases, clash}
 use Rattle.sets.specs.Sets.{Set, In, has, firstIn, lowest}
-use Rattle.sets.proofs.Members.{has-empty, no-member}
+use Rattle.sets.proofs.Members.{digit-small, has-empty, no-member}
 
 -- the search ends at the bound with nothing found, or at a member
 pub firstIn-found : (k lo : ℕ) (p : Set) → (firstIn k lo p ≡ lo + k) ⊎ In p (firstIn k lo p)
@@ -63,20 +62,20 @@ lowest-in s h other = ⊎-elim (λ e. absurd (other (empty e))) (λ e. e) (first
             (λ q. ⊎-elim (λ a. absurd (omega arith)) (λ a. absurd (omega arith)) (firstIn-least 8 0 (has s) i (omega arith) q))
             (λ q. q)
 
--- the search stops at server lo if its digit d is set; else it stops one server further on than there are zeros above
+-- if digit d of server lo is set, the search stops at lo; else it stops after lo and the t zeros above it
 at-digit : (d lo t : ℕ) → d < 2 → cond (eqb d 1) lo (suc lo + t) ≡ lo + under d t
 at-digit zero lo t h = omega arith
 at-digit (suc zero) lo t h = omega arith
 at-digit (suc (suc d)) lo t h = absurd (omega arith)
 
 -- a search of k servers from lo on passes the zeros that stand, from digit lo on, below the lowest digit that is set
-pub first-trailing : (k lo s : ℕ) → firstIn k lo (has s) ≡ lo + trailingZeros k (s / 2 ^ lo)
+first-trailing : (k lo s : ℕ) → firstIn k lo (has s) ≡ lo + trailingZeros k (s / 2 ^ lo)
 unfolding firstIn trailingZeros has
 first-trailing zero lo s = omega arith
 first-trailing (suc k) lo s =
     let half : s / 2 ^ suc lo ≡ s / 2 ^ lo / 2 = rw (← add-one lo) (sym (shr-shr s lo 1)) in
     let later : firstIn k (suc lo) (has s) ≡ suc lo + trailingZeros k (s / 2 ^ lo / 2) = rw (← half) (first-trailing k (suc lo) s) in
-    rw later (at-digit (s / 2 ^ lo % 2) lo (trailingZeros k (s / 2 ^ lo / 2)) (mod-lt (s / 2 ^ lo) (lit< tt)))
+    rw later (at-digit (s / 2 ^ lo % 2) lo (trailingZeros k (s / 2 ^ lo / 2)) (digit-small (s / 2 ^ lo)))
 
 pub trailing-lowest : (s : ℕ) → trailingZeros 8 s ≡ lowest s
 unfolding lowest

@@ -82,7 +82,7 @@ digits-minus zero (suc (suc b)) p q = absurd (omega arith)
 digits-minus (suc zero) (suc (suc b)) p q = absurd (omega arith)
 digits-minus (suc (suc a)) b p q = absurd (omega arith)
 
-digit-small : (x : ℕ) → x % 2 < 2
+pub digit-small : (x : ℕ) → x % 2 < 2
 digit-small x = omega arith
 
 and-lowest : (x y : ℕ) → bitAnd x y % 2 ≡ min (x % 2) (y % 2)

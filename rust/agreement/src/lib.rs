@@ -105,7 +105,7 @@ pub struct Version {
     pub patch: u64,
 }
 
-/// `0.3.1`.
+/// Major, minor and patch, with points between them.
 impl Display for Version {
     fn fmt(&self, out: &mut Formatter) -> fmt::Result {
         write!(out, "{}.{}.{}", self.major, self.minor, self.patch)

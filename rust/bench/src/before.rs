@@ -13,6 +13,8 @@ macro_rules! archive {
             use agreement::CLEAN_CARD_LIMIT;
 
             extern "C" {
+                #[link_name = concat!($prefix, "agreement_version")]
+                fn version_number() -> u64;
                 #[link_name = concat!($prefix, "agreement_split_test")]
                 fn split_words(card: *const u8, length: usize, answer: *mut [u64; 5]);
                 #[link_name = concat!($prefix, "agreement_read_card")]
@@ -50,23 +52,33 @@ macro_rules! archive {
                 );
             }
 
-            // SAFETY of each call: pointer and length are those of one live slice, and what
-            // is written is lent for the call alone.
+            pub fn version() -> u64 {
+                // SAFETY: the function takes nothing and touches no memory.
+                unsafe { version_number() }
+            }
+
+            // What holds of every call below: its signature is that of the archive, for
+            // which `assert_signatures` looks at the version; pointer and length are those
+            // of one live slice, and an empty slice's pointer is not null either; only
+            // `lent` and `answer` are written, and nothing else refers to them.
 
             pub fn split_test(card: &[u8]) -> [u64; 5] {
                 let mut answer = [0; 5];
+                // SAFETY: as said above.
                 unsafe { split_words(card.as_ptr(), card.len(), &mut answer) };
                 answer
             }
 
             pub fn read_card(card: &[u8]) -> [u64; 12] {
                 let mut answer = [0; 12];
+                // SAFETY: as said above.
                 unsafe { card_words(card.as_ptr(), card.len(), &mut answer) };
                 answer
             }
 
             pub fn print_card(card: &[u8]) -> ([u64; 4], [u8; CLEAN_CARD_LIMIT]) {
                 let (mut answer, mut lent) = ([0; 4], [0; CLEAN_CARD_LIMIT]);
+                // SAFETY: as said above.
                 unsafe {
                     print_words(
                         card.as_ptr(),
@@ -81,6 +93,7 @@ macro_rules! archive {
 
             pub fn check_plan(card: &[u8], plan: &[u8]) -> [u64; 4] {
                 let mut answer = [0; 4];
+                // SAFETY: as said above.
                 unsafe {
                     plan_words(
                         card.as_ptr(),
@@ -95,6 +108,7 @@ macro_rules! archive {
 
             pub fn run(case: &runs::Case) -> ([u64; 4], [u8; 8]) {
                 let (mut answer, mut lent) = ([0; 4], [runs::UNTOUCHED; 8]);
+                // SAFETY: as said above.
                 unsafe {
                     run_words(
                         case.card.as_ptr(),
@@ -120,8 +134,22 @@ macro_rules! archive {
 archive!(now, "now_");
 archive!(before, "before_");
 
+/// The first version with all of the signatures above, 0.3.0. Where one of them changes,
+/// this follows.
+const SIGNATURES_SINCE: u64 = 3_000;
+
+/// A call to an archive with other signatures could write past an answer.
+fn assert_signatures() {
+    let (now, before) = (now::version(), before::version());
+    assert!(
+        (SIGNATURES_SINCE..=now).contains(&before),
+        "the older archive has version {before}: from {SIGNATURES_SINCE} to {now} can be timed"
+    );
+}
+
 /// The rows of all tables, this library's time over the older one's.
 pub fn tables(cards: &[cards::Case], plans: &[plans::Case], runs: &[runs::Case]) {
+    assert_signatures();
     table(
         "split test",
         cards,

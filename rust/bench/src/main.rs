@@ -12,7 +12,8 @@
 //! Where `AGREEMENT_BEFORE` is the absolute path of an older libagreement.a, the same
 //! tables follow with that one in the reference's place.
 
-#![deny(unsafe_code)]
+#![cfg_attr(not(before), forbid(unsafe_code))]
+#![cfg_attr(before, deny(unsafe_code))]
 
 #[cfg(before)]
 #[allow(unsafe_code)]
@@ -34,7 +35,7 @@ fn main() {
     }
     println!("Times in nanoseconds per call, the median of {ROUNDS} rounds by turns; the ratio is");
     println!("the median of the rounds' ratios, so the two times need not divide to it exactly.");
-    println!("Both are built for release, in one process, on one input;");
+    println!("The two of a table are built for release, in one process, on one input;");
     println!("a call leaves nothing behind, and each that writes gets a fresh buffer.");
     let cases = cards::cases();
     for case in &cases {

@@ -1,5 +1,5 @@
 -- `plan::check::check_among` meets its contract. Assumes nothing.
-use Prim.Native.Nat.{ℕ, _-_}
+use Prim.Native.Nat.{ℕ}
 use native.Mathlib.Omega.{arith}
 use borrow.Author.Needs.{needs}
 use lib.ListN.{length}
@@ -9,8 +9,6 @@ use Rattle.plan.specs.Due.{fan}
 use Rattle.plan.specs.Check.{andThen, checkGroups, checkReports}
 use Rattle.plan.proofs.Parts.{halts-then, moves-then}
 use Rattle.plan.proofs.Bounds.{pairs-bound, code-bound}
-use borrow.Author.Needs.{needs}
-use borrow.Author.Needs.{needs}
 use Rattle.plan.proofs.check.check_among.Statement.{statement}
 use Rattle.plan.proofs.check.check_among.Tie as tie
 use Rattle.plan.proofs.check.check_among.Reads as reads

@@ -1,18 +1,15 @@
 -- `plan::check::check_outward` meets its contract. Assumes nothing.
 use mathlib.Core.Path.{refl, ap, _∙_}
-use Prim.Native.Nat.{ℕ, _-_}
+use Prim.Native.Nat.{ℕ}
 use native.Mathlib.Omega.{arith}
 use borrow.Author.Needs.{needs}
 use lib.ListN.{length}
-use Rattle.sets.specs.Sets.{minus, full}
 use Rattle.plan.specs.Members.{members}
 use Rattle.plan.specs.Due.{fan}
 use Rattle.route.specs.Commands.{width}
 use Rattle.plan.specs.Check.{checkGroups, checkReports}
 use Rattle.plan.proofs.Parts.{halts-then, moves-then, others-is}
 use Rattle.plan.proofs.Bounds.{fan-bound, code-bound}
-use borrow.Author.Needs.{needs}
-use borrow.Author.Needs.{needs}
 use Rattle.plan.proofs.check.check_outward.Statement.{statement}
 use Rattle.plan.proofs.check.check_outward.Tie as tie
 use Rattle.plan.proofs.check.check_outward.Reads as reads

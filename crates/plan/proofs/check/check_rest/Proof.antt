@@ -1,6 +1,6 @@
 -- `plan::check::check_rest` meets its contract. Assumes nothing.
 use mathlib.Core.Path.{refl, sym, ap, _∙_}
-use Prim.Native.Nat.{ℕ, _-_}
+use Prim.Native.Nat.{ℕ}
 use native.Mathlib.Omega.{arith}
 use borrow.Author.Needs.{needs}
 use lib.ListN.{length}
@@ -11,7 +11,6 @@ use Rattle.route.specs.Commands.{width}
 use Rattle.plan.specs.Check.{andThen, checkGroups, checkReports}
 use Rattle.plan.proofs.Parts.{halts-then, moves-then, rest-split}
 use Rattle.plan.proofs.Bounds.{fan-bound, code-bound}
-use borrow.Author.Needs.{needs}
 use Rattle.plan.proofs.check.check_rest.Statement.{statement}
 use Rattle.plan.proofs.check.check_rest.Tie as tie
 use Rattle.plan.proofs.check.check_rest.Reads as reads
