@@ -150,26 +150,13 @@ fn assert_signatures() {
 /// The rows of all tables, this library's time over the older one's.
 pub fn tables(cards: &[cards::Case], plans: &[plans::Case], runs: &[runs::Case]) {
     assert_signatures();
-    table(
-        "split test",
-        cards,
-        |case| case.name,
-        |case| now::split_test(&case.card),
-        |case| before::split_test(&case.card),
-    );
-    table(
-        "card reader",
-        cards,
-        |case| case.name,
-        |case| now::read_card(&case.card),
-        |case| before::read_card(&case.card),
-    );
-    table(
+    of_cards("split test", cards, now::split_test, before::split_test);
+    of_cards("card reader", cards, now::read_card, before::read_card);
+    of_cards(
         "card printed back",
         cards,
-        |case| case.name,
-        |case| now::print_card(&case.card),
-        |case| before::print_card(&case.card),
+        now::print_card,
+        before::print_card,
     );
     table(
         "plan check",
@@ -179,6 +166,21 @@ pub fn tables(cards: &[cards::Case], plans: &[plans::Case], runs: &[runs::Case])
         |case| before::check_plan(&case.card, &case.plan),
     );
     table("run", runs, |case| case.name, now::run, before::run);
+}
+
+fn of_cards<A: Debug + PartialEq>(
+    function: &str,
+    cases: &[cards::Case],
+    now: impl Fn(&[u8]) -> A,
+    before: impl Fn(&[u8]) -> A,
+) {
+    table(
+        function,
+        cases,
+        |case| case.name,
+        |case| now(&case.card),
+        |case| before(&case.card),
+    );
 }
 
 /// A row for each case, on which the two archives have to give the same.
