@@ -5,28 +5,35 @@
 --     card-refused     a refused card
 --     print-words      a card printed back
 --     run-words        a run
+--     quick-words      the quick test, with what it says of the split test; held-words its yes or no
 -- Assumes nothing.
 use mathlib.Core.Path.{_≡_, refl, sym, ap, ap₂, _∙_}
+use mathlib.Core.Bool.{Bool, true, false}
 use mathlib.Core.List.{List, [], _∷_, _++_}
 use Prim.Native.Nat.{ℕ, zero, suc, _+_}
 use native.Mathlib.Omega.{arith}
 use lib.ListN.{length, getD, drop, drop-of-length-le}
 use lib.Seq.{drop-cons}
+use mir.Val.{boolByte}
+use Rattle.facts.proofs.Bools.{clash}
 use Rattle.refusal.specs.Refused.{Refused, whoseOf, numberOf, placeOf, refusalOf}
 use Rattle.refusal.specs.declared.Refusal.{Refusal}
 use Rattle.network.specs.Card.{network, readCard}
 use Rattle.network.specs.Links.{Links, noLinks, linkedIn}
 use Rattle.network.specs.Rows.{rowsOf}
-use Rattle.network.specs.Split.{Split, unread}
+use Rattle.network.specs.Split.{Split, good, unread, splitTest}
 use Rattle.network.specs.declared.card.Reading.{Reading}
 use Rattle.network.specs.declared.print.Printed.{Printed}
 use Rattle.network.specs.Answers.{readingOf, Answered, printedOf, Printing}
 use Rattle.network.proofs.Heads.{network-is, refused-of}
 use Rattle.network.proofs.LinkRows.{rows-none}
+use Rattle.two_way.specs.Quick.{Quick, ruled, quickTest}
+use Rattle.two_way.specs.Quick as Quick
+use Rattle.two_way.proofs.Main.{agrees}
 use Rattle.run.specs.declared.call.Ran.{Ran}
 use Rattle.run.specs.Answers.{ranOf}
 use Rattle.run.specs.Answers as Run
-use Rattle.agreement.specs.Words.{refusedWords, cardWords, printWords, PrintWords, splitWords, planWords, RunWords}
+use Rattle.agreement.specs.Words.{refusedWords, cardWords, printWords, PrintWords, splitWords, quickWords, QuickWords, planWords, RunWords}
 
 module _ (r : Refused) (w m p : ℕ) (a : w ≡ whoseOf r) (b : m ≡ numberOf r) (c : p ≡ placeOf r) where
   pub split-refused : (s : Split) → s ≡ unread r → 2 ∷ w ∷ m ∷ p ∷ 0 ∷ [] ≡ splitWords s
@@ -63,3 +70,29 @@ run-words card plan inputs X table lent r after words a w =
       bytes = a .bytes;
       agreed = λ n f links e blocks carriages q. a .agreed n f links e blocks carriages (a .answer ∙ q);
     }
+
+-- the words of the quick test, with what they say of the split test
+module _ (card words : List ℕ) (e : words ≡ quickWords (quickTest card)) where
+  yes-good : (n least : ℕ) → words ≡ 0 ∷ 1 ∷ n ∷ least ∷ [] → splitTest card ≡ good
+  yes-good n least w = go (quickTest card) refl (sym e ∙ w)
+    where
+      go : (a : Quick) → quickTest card ≡ a → quickWords a ≡ 0 ∷ 1 ∷ n ∷ least ∷ [] → splitTest card ≡ good
+      go (ruled true m k) q w = agrees card true m k q .0 refl
+      go (ruled false m k) q w = let z : _≡_ {A = ℕ} 0 1 = cc in absurd (omega arith)
+      go (Quick.turned r) q w = let z : _≡_ {A = ℕ} 2 0 = cc in absurd (omega arith)
+
+  no-bad : (n least : ℕ) → words ≡ 0 ∷ 0 ∷ n ∷ least ∷ [] → splitTest card ≡ good → ⊥
+  no-bad n least w g = go (quickTest card) refl (sym e ∙ w)
+    where
+      go : (a : Quick) → quickTest card ≡ a → quickWords a ≡ 0 ∷ 0 ∷ n ∷ least ∷ [] → ⊥
+      go (ruled true m k) q w = let z : _≡_ {A = ℕ} 1 0 = cc in absurd (omega arith)
+      go (ruled false m k) q w = clash false (agrees card false m k q .1 g) refl
+      go (Quick.turned r) q w = let z : _≡_ {A = ℕ} 2 0 = cc in absurd (omega arith)
+
+  pub quick-words : QuickWords card words
+  quick-words = record { answer = e; agrees = λ n least. (yes-good n least, no-bad n least) }
+
+-- yes is 1 and no is 0
+pub held-words : (holds : Bool) (n least : ℕ) → 0 ∷ boolByte holds ∷ n ∷ least ∷ [] ≡ quickWords (ruled holds n least)
+held-words true n least = refl
+held-words false n least = refl

@@ -1,14 +1,17 @@
 -- The answers as rows of words, for callers without our enums. The first word says what the others are: 0 answered, 1 a bad split, 2 refused.
 -- A refusal's words are what is at fault (0 card, 1 plan, 2 call), the number and the place.
 use mathlib.Core.Path.{_≡_}
+use mathlib.Core.Bool.{cond}
 use mathlib.Core.List.{List, [], _∷_, _++_}
 use Prim.Native.Nat.{ℕ}
 use Rattle.refusal.specs.Refused.{Refused, whoseOf, numberOf, placeOf}
 use Rattle.network.specs.Card.{Network, network, refused, readCard}
 use Rattle.network.specs.Links.{Links, linkedIn}
 use Rattle.network.specs.Rows.{rowsOf}
-use Rattle.network.specs.Split.{Split, good, bad, unread}
+use Rattle.network.specs.Split.{Split, good, bad, unread, splitTest}
 use Rattle.network.specs.Print.{Print, wrote, unwritten, printInto, printedIn}
+use Rattle.two_way.specs.Quick.{Quick, ruled, quickTest}
+use Rattle.two_way.specs.Quick as Quick
 use Rattle.plan.specs.Check.{Totals, totals}
 use Rattle.plan.specs.Check as Check
 use Rattle.steps.specs.Run.{runPlan, lentAfter}
@@ -35,6 +38,15 @@ abbrev pub splitWords : Split → List ℕ
 splitWords good = 0 ∷ 0 ∷ 0 ∷ 0 ∷ 0 ∷ []
 splitWords (bad f l c r) = 1 ∷ f ∷ l ∷ c ∷ r ∷ []
 splitWords (unread r) = 2 ∷ whoseOf r ∷ numberOf r ∷ placeOf r ∷ 0 ∷ []
+
+abbrev pub quickWords : Quick → List ℕ
+quickWords (ruled holds n least) = 0 ∷ cond holds 1 0 ∷ n ∷ least ∷ []
+quickWords (Quick.turned r) = refusedWords r
+
+-- the words of the quick test; `agrees` is what they say of the split test
+pub record QuickWords (card words : List ℕ) : Type 0 where
+  pub answer : words ≡ quickWords (quickTest card)
+  pub agrees : (n least : ℕ) → (words ≡ 0 ∷ 1 ∷ n ∷ least ∷ [] → splitTest card ≡ good) × (words ≡ 0 ∷ 0 ∷ n ∷ least ∷ [] → splitTest card ≡ good → ⊥)
 
 abbrev pub planWords : Totals → List ℕ
 planWords (totals blocks carriages) = 0 ∷ blocks ∷ carriages ∷ 0 ∷ []

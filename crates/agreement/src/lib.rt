@@ -12,6 +12,7 @@ use plan::check::Checked;
 use refusal::Refusal;
 use run::call;
 use run::call::Ran;
+use two_way::QuickAnswer;
 ghost use mathlib.Core.Path.{_≡_};
 ghost use mathlib.Core.List.{_++_};
 ghost use Rattle.refusal.specs.Refused.{refusalOf};
@@ -20,7 +21,7 @@ ghost use Rattle.network.specs.Links.{linkedIn};
 ghost use Rattle.network.specs.Rows.{rowsOf};
 ghost use Rattle.network.specs.Split.{splitTest};
 ghost use Rattle.plan.specs.Check.{totals, checkPlan};
-ghost use Rattle.agreement.specs.Words.{refusedWords, cardWords, PrintWords, splitWords, planWords, RunWords};
+ghost use Rattle.agreement.specs.Words.{refusedWords, cardWords, PrintWords, splitWords, QuickWords, planWords, RunWords};
 ghost use Rattle.agreement.specs.Version.{version};
 
 // The version of this library: 1,000,000 * major + 1,000 * minor + patch.
@@ -28,7 +29,7 @@ ghost use Rattle.agreement.specs.Version.{version};
 pub extern "C" fn agreement_version() -> u64
     ensures { λ r. ⌜ r ≡ version ⌝ }
 {
-    3_001
+    4_000
 }
 
 // 2, what is at fault, the refusal's number, its place.
@@ -128,6 +129,24 @@ pub extern "C" fn agreement_split_test(card: &[u8], answer: &mut [u64; 5])
             let number = refusal::number(r);
             let place = refusal::place(r);
             *answer = [2, whose as u64, number as u64, place as u64, 0];
+        }
+    }
+}
+
+// The quick test for two-way sites. The answer is 0, 1 if the older rule holds and 0 if not, n, the
+// least number of servers to be taken away; or 2, what is at fault, the refusal's number, its place.
+#[no_mangle]
+pub extern "C" fn agreement_quick_test(card: &[u8], answer: &mut [u64; 4])
+    ensures { λ r. ⌜ QuickWords (now (card .entry)) (now (answer .exit)) ⌝ }
+{
+    let tested = two_way::quick_test(card);
+    match tested {
+        QuickAnswer::Rule { holds, n, least } => {
+            *answer = [0, holds as u64, n as u64, least as u64];
+        }
+        QuickAnswer::Refused(r) => {
+            let words = refused_words(r);
+            *answer = words;
         }
     }
 }

@@ -8,6 +8,7 @@ use Rattle.network.specs.Card.{Network, network, refused, readCard}
 use Rattle.network.specs.Split.{splitTest}
 use Rattle.network.proofs.Accepted.{accepted-short}
 use Rattle.network.proofs.Networks.{network-accepted}
+use Rattle.two_way.specs.Quick.{quickTest}
 use Rattle.plan.specs.Check.{checkPlan}
 use Rattle.steps.specs.Run.{runPlan, lentAfter}
 use Rattle.network.specs.Print.{wholeCard, cleanCard, printInto, printedIn}
@@ -15,13 +16,14 @@ use Rattle.cards.specs.Twins.{unplaced, Alike, SeenOnce}
 use Rattle.cards.proofs.Whole.{whole-same}
 
 pub read-alike : (s t : List ℕ) → readCard s ≡ readCard t → Alike s t
-unfolding printInto printedIn cleanCard splitTest checkPlan runPlan lentAfter
+unfolding printInto printedIn cleanCard splitTest quickTest checkPlan runPlan lentAfter
 read-alike s t e =
     record {
       read = e;
       print = λ lent. rw e refl;
       printed = λ lent. rw e refl;
       split = rw e refl;
+      quick = rw e refl;
       check = λ plan. rw e refl;
       run = λ plan inputs faulty lent. rw e refl;
       bytes = λ plan inputs faulty table lent. rw e refl;

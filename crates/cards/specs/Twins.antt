@@ -3,7 +3,7 @@
 --     Again       <-> a link command given again, anywhere after the first and whatever follows it, changes nothing; a fault behind it stands three
 --                     bytes later
 --     SetAlone    <-> two whole cards with one n, f and set of links give the same, but for the place of a refusal
---     SeenOnce    <-> reading, printing, split test, plan check and run give the same for two such cards that are read
+--     SeenOnce    <-> reading, printing, split test, quick test, plan check and run give the same for two such cards that are read
 use mathlib.Core.Path.{_≡_}
 use mathlib.Core.Bool.{cond}
 use mathlib.Core.List.{List, [], _∷_, _++_, List·Memᴰ}
@@ -15,6 +15,7 @@ use Rattle.network.specs.Links.{Links}
 use Rattle.network.specs.Card.{Network, network, refused, readCard}
 use Rattle.network.specs.Split.{splitTest}
 use Rattle.network.specs.Print.{Link, cardBytes, wholeCard, printInto, printedIn}
+use Rattle.two_way.specs.Quick.{quickTest}
 use Rattle.plan.specs.Check.{checkPlan}
 use Rattle.steps.specs.Run.{runPlan, lentAfter}
 
@@ -46,6 +47,7 @@ pub record Alike (s t : List ℕ) : Type 0 where
   pub print : (lent : List ℕ) → printInto s lent ≡ printInto t lent
   pub printed : (lent : List ℕ) → printedIn s lent ≡ printedIn t lent
   pub split : splitTest s ≡ splitTest t
+  pub quick : quickTest s ≡ quickTest t
   pub check : (plan : List ℕ) → checkPlan s plan ≡ checkPlan t plan
   pub run : (plan inputs : List ℕ) (faulty : ℕ) (lent : List ℕ) → runPlan s plan inputs faulty lent ≡ runPlan t plan inputs faulty lent
   pub bytes : (plan inputs : List ℕ) (faulty : ℕ) (table lent : List ℕ) → lentAfter s plan inputs faulty table lent ≡ lentAfter t plan inputs faulty table lent

@@ -5,6 +5,7 @@
 // first, and its bytes.
 //     c CARD                                   the words of the card reader
 //     s CARD                                   the words of the split test
+//     q CARD                                   the words of the quick test
 //     b CARD BUFFER                            the words of the card printed back, and the lent bytes
 //                                              after it
 //     p CARD PLAN                              the words of the plan check
@@ -108,6 +109,13 @@ fn split_case(card: &[u8]) {
     end_line();
 }
 
+fn quick_case(card: &[u8]) {
+    let mut answer = [9u64; 4];
+    agreement::agreement_quick_test(card, &mut answer);
+    print_words(answer);
+    end_line();
+}
+
 fn plan_case(card: &[u8], plan: &[u8]) {
     let mut answer = [9u64; 4];
     agreement::agreement_check_plan(card, plan, &mut answer);
@@ -180,6 +188,10 @@ fn answer_case(kind: u8, s: &[u8]) -> &[u8]
     }
     if kind == 115 {
         split_case(card);
+        return first;
+    }
+    if kind == 113 {
+        quick_case(card);
         return first;
     }
     let plan = part(first);

@@ -1,6 +1,8 @@
 -- The test of a split by numbers, and the paper's broken partition.
 --     breaks-broken   numbers that pass the test are a partition that breaks the condition
 --     broken-breaks   sets that break the condition have numbers that pass the test
+--     member-of, of-member     a number that is not 0 has a member, and one whose members are those of a set with some is not 0
+--     meet-apart, apart-meet   sets with an empty meet share no server, and the other way
 -- Only servers below n count, so a set is known by the number that agrees with it there. The set C is what the other three leave.
 -- Assumes nothing.
 use mathlib.Core.Path.{_≡_, refl, sym, ap, _∙_}
@@ -30,23 +32,23 @@ small-byte n s h k =
     (λ q. let m = pow-lt {i = n} {j = 8} (ltb-true n 8 q) in omega arith)
     (λ q. let m = ltb-false n 8 q in let e : n ≡ 8 = omega arith in rw e at k)
 
-member-of : (n s : ℕ) → n ≤ 8 → s < 2 ^ n → eqb s 0 ≡ false → Some n (has s)
+pub member-of : (n s : ℕ) → n ≤ 8 → s < 2 ^ n → eqb s 0 ≡ false → Some n (has s)
 member-of n s h k e =
     let m = lowest-in s (small-byte n s h k) (eqb-false s 0 e) in
     (lowest s, has-below n s (lowest s) k m, m)
 
-of-member : (n s : ℕ) (p : Set) → Agree n s p → Some n p → eqb s 0 ≡ false
+pub of-member : (n s : ℕ) (p : Set) → Agree n s p → Some n p → eqb s 0 ≡ false
 of-member n s p a (i, k, e) =
     ne-eqb s 0 (λ q. clash (p i) e (sym (a i k) ∙ ap (λ (s : ℕ). has s i) q ∙ has-empty i))
 
 -- disjointness
 
-meet-apart : (n a b : ℕ) → eqb (meet a b) 0 ≡ true → Apart n (has a) (has b)
+pub meet-apart : (n a b : ℕ) → eqb (meet a b) 0 ≡ true → Apart n (has a) (has b)
 meet-apart n a b e i k p q =
     let z : has (meet a b) i ≡ false = ap (λ (s : ℕ). has s i) (eqb-true (meet a b) 0 e) ∙ has-empty i in
     clash (has (meet a b) i) (has-meet a b i ∙ both (has a i) (has b i) p q) z
 
-apart-meet : (n a b : ℕ) (p q : Set) → a < 2 ^ n → b < 2 ^ n → Agree n a p → Agree n b q → Apart n p q → eqb (meet a b) 0 ≡ true
+pub apart-meet : (n a b : ℕ) (p q : Set) → a < 2 ^ n → b < 2 ^ n → Agree n a p → Agree n b q → Apart n p q → eqb (meet a b) 0 ≡ true
 apart-meet n a b p q ha hb pa pb h =
     eq-eqb (meet a b) 0 (no-member n (meet a b) (meet-small n a b ha hb) λ i k. has-meet a b i ∙ outside i k)
   where

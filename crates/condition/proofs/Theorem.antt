@@ -1,4 +1,5 @@
 -- The split test and Theorem 1: the search finds no bad split exactly if the condition holds, and reports the first partition that breaks it.
+--     arrow-cases                      an arrow, or the lack of one
 --     good-condition, condition-good   the answer is good exactly if the condition holds
 --     bad-broken                       the reported split breaks the condition
 --     bad-inside                       it is one of four sets of V
@@ -23,7 +24,7 @@ use Rattle.condition.proofs.Search.{firstBad-good, firstBad-all, firstB
 use Rattle.condition.proofs.Partitions.{breaks-broken, broken-breaks}
 
 -- an arrow, or the lack of one
-arrow-cases {ℓ} : {D : Type ℓ} (n f : ℕ) (E : Edges) (A B : Set) → (Arrow n f E A B → D) → ((Arrow n f E A B → ⊥) → D) → D
+pub arrow-cases {ℓ} : {D : Type ℓ} (n f : ℕ) (E : Edges) (A B : Set) → (Arrow n f E A B → D) → ((Arrow n f E A B → ⊥) → D) → D
 arrow-cases n f E A B g h =
     let c = count n (λ (i : ℕ). A i && neighbour n E B i) in
     cases (ltb f c) (λ e. g (ltb-true f c e)) (λ e. let m = ltb-false f c e in h (λ w. omega arith))

@@ -9,7 +9,7 @@
 -- CleanCard     the clean card in the lent buffer
 -- Heads         what the reader's answer says of the card, and of the split test
 -- Search        what a search over one range finds
--- Neighbours    tests that agree below n
+-- Neighbours    some server below n is in a set
 -- SourceRows    the rows of sources, as the code makes and reads them
 -- Weakness      why the split test may look at one side at a time
 -- Scans         the three nested scans
@@ -25,6 +25,6 @@ pub mod CleanCard
 pub mod Heads
 pub mod Search
 pub mod Neighbours
-mod SourceRows
+pub mod SourceRows
 mod Weakness
 mod Scans

@@ -1,10 +1,10 @@
 -- The rows of sources and the tables of halves, as the code makes and reads them: the loops on plain numbers, each by membership, for every
 -- server at once.
---     someBelow-..     a test on servers: none, those beyond n, two halves
+--     someBelow-..     a test on servers: those beyond n, two halves
 --     to-..            the loop of `sources`: the servers below u with a link to v
 --     rows-..          the loop of `source_rows`
 --     half-..          the loop of `half_table`; joined-.. what `into_half` computes
---     tables-of        the tables are those of a proper network's links
+--     halves-of        the tables are those of a proper network's links
 --     halves-into      the two tables give the servers of V with a link into a set
 -- Assumes nothing.
 use mathlib.Core.Path.{_≡_, refl, sym, ap, ap₂, _∙_}
@@ -18,18 +18,13 @@ use lib.Dec.{eqb, ltb}
 use lib.Pow.{pow-mono}
 use borrow.Author.Tests.{lt-ltb, le-ltb, eqb-true, eqb-false, ltb-true}
 use Rattle.facts.proofs.Bools.{cases, same}
-use Rattle.sets.specs.Sets.{Set, has, union, single, size, TableOf}
+use Rattle.sets.specs.Sets.{Set, has, union, single}
 use Rattle.sets.proofs.Members.{has-union, has-single, single-is, has-empty, has-beyond, has-mod, has-div}
 use Rattle.network.specs.Links.{Links, linkedIn}
 use Rattle.network.specs.Split.{someBelow}
-use Rattle.network.specs.Weak.{Sources, SourcesOf, Joined, HalfTable, Tables}
+use Rattle.network.specs.Sources.{Sources, SourcesOf, Joined, HalfTable, intoOf, Halves}
 use Rattle.network.specs.Proper.{Proper}
-use Rattle.network.proofs.Neighbours.{someBelow-same}
-
-pub someBelow-none : (n : ℕ) (p : Set) → ((i : ℕ) → i < n → p i ≡ false) → someBelow n p ≡ false
-unfolding someBelow
-someBelow-none zero p h = refl
-someBelow-none (suc n) p h = let ih = someBelow-none n p (λ i k. h i (omega arith)) in let e = h n (omega arith) in cc
+use Rattle.network.proofs.Neighbours.{someBelow-same, none-of}
 
 pub someBelow-beyond : (n k : ℕ) (p : Set) → ((i : ℕ) → n ≤ i → p i ≡ false) → someBelow (k + n) p ≡ someBelow n p
 unfolding someBelow
@@ -119,9 +114,9 @@ sources-proper n f links rows p r v h u =
     (λ e. let a = p .from u v e in let m = p .most in let x = lt-ltb u 8 (omega arith) in let y = lt-ltb u n a in cc)
     (λ e. cases (ltb u 8) (λ x. cases (ltb u n) (λ y. cc) (λ y. cc)) (λ x. cases (ltb u n) (λ y. cc) (λ y. cc)))
 
-pub tables-of : (n f : ℕ) (links : Links) (rows sizes lower upper : List ℕ) → Proper n f links → ((v : ℕ) → v < 8 → SourcesOf links v 8 (getD rows v 0))
-    → TableOf size sizes → HalfTable rows 0 lower → HalfTable rows 4 upper → Tables n links sizes lower upper
-tables-of n f links rows sizes lower upper p r s l u = record { rows = rows; sources = sources-proper n f links rows p r; sized = s; low = l; high = u }
+pub halves-of : (n f : ℕ) (links : Links) (rows lower upper : List ℕ) → Proper n f links → ((v : ℕ) → v < 8 → SourcesOf links v 8 (getD rows v 0))
+    → HalfTable rows 0 lower → HalfTable rows 4 upper → Halves n links lower upper
+halves-of n f links rows lower upper p r l u = record { rows = rows; sources = sources-proper n f links rows p r; low = l; high = u }
 
 -- into_half
 
@@ -185,7 +180,7 @@ module _ (n : ℕ) (links : Links) (rows : List ℕ) (few : n ≤ 8) (so : Sourc
           rw q (someBelow-same n (λ (v : ℕ). has s v && has (getD rows v 0) u) (λ (v : ℕ). has s v && linkedIn links u v) (λ i k. let m = so i (omega arith) u in cc))
 
       none : ltb u n ≡ false → someBelow n (λ (v : ℕ). has s v && has (getD rows v 0) u) ≡ false
-      none q = someBelow-none n (λ (v : ℕ). has s v && has (getD rows v 0) u) (λ i k. let m = so i (omega arith) u in cases (has s i) (λ x. cc) (λ x. cc))
+      none q = none-of n (λ (v : ℕ). has s v && has (getD rows v 0) u) (λ i k. let m = so i (omega arith) u in cases (has s i) (λ x. cc) (λ x. cc))
 
   module _ (lower upper : List ℕ) (low : HalfTable rows 0 lower) (high : HalfTable rows 4 upper) where
     lower-part : has (getD lower (s % 16) 0) u ≡ someBelow 4 (λ (i : ℕ). has s i && has (getD rows i 0) u)
@@ -200,11 +195,17 @@ module _ (n : ℕ) (links : Links) (rows : List ℕ) (few : n ≤ 8) (so : Sourc
         ∙ someBelow-same 4 (λ (i : ℕ). has (s / 16) i && has (getD rows (4 + i) 0) u) (λ (i : ℕ). has s (4 + i) && has (getD rows (4 + i) 0) u)
         (λ i k. let a = has-div 4 s i in cc)
 
-    pub halves-into : (into : ℕ) → into ≡ union (getD upper (s / 16) 0) (getD lower (s % 16) 0) → has into u ≡ (ltb u n && someBelow n (λ (v : ℕ). has s v && linkedIn links u v))
-    halves-into into e =
+    halves-give : has (union (getD upper (s / 16) 0) (getD lower (s % 16) 0)) u ≡ (ltb u n && someBelow n (λ (v : ℕ). has s v && linkedIn links u v))
+    halves-give =
         let byte : s < 256 = let m = pow-mono few in omega arith in
         let a = lower-part in
         let b = upper-part byte in
         let c = has-union (getD upper (s / 16) 0) (getD lower (s % 16) 0) u in
         let d = someBelow-halves 4 4 (λ (v : ℕ). has s v && has (getD rows v 0) u) in
-        ap (λ (x : ℕ). has x u) e ∙ c ∙ ap₂ (λ (x y : Bool). x || y) b a ∙ sym d ∙ rows-into
+        c ∙ ap₂ (λ (x y : Bool). x || y) b a ∙ sym d ∙ rows-into
+
+pub halves-into : (n : ℕ) (links : Links) (lower upper : List ℕ) → n ≤ 8 → Halves n links lower upper → (s : ℕ) → s < 2 ^ n → (into : ℕ) → into ≡ intoOf lower upper s
+    → (u : ℕ) → has into u ≡ (ltb u n && someBelow n (λ (v : ℕ). has s v && linkedIn links u v))
+unfolding intoOf
+halves-into n links lower upper few t s small into e u =
+    ap (λ (x : ℕ). has x u) e ∙ halves-give n links (t .rows) few (t .sources) s small u lower upper (t .low) (t .high)

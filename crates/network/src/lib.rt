@@ -2,4 +2,5 @@
 pub mod card;
 pub mod links;
 pub mod print;
+pub mod sources;
 pub mod split;

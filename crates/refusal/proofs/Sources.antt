@@ -27,8 +27,10 @@ pub of-call : (g : CallGround) → 2 ≡ whoseOf (callRefusal g)
 of-call CallGround.Inputs = refl
 of-call CallGround.FaultSet = refl
 of-call CallGround.Buffer = refl
+of-call CallGround.OneWay = refl
 
 pub call-place : (g : CallGround) → 0 ≡ placeOf (callRefusal g)
 call-place CallGround.Inputs = refl
 call-place CallGround.FaultSet = refl
 call-place CallGround.Buffer = refl
+call-place CallGround.OneWay = refl

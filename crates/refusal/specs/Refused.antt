@@ -33,6 +33,7 @@ abbrev pub callRefusal : CallGround → Refused
 callRefusal CallGround.Inputs = call 12
 callRefusal CallGround.FaultSet = call 13
 callRefusal CallGround.Buffer = call 14
+callRefusal CallGround.OneWay = call 15
 
 abbrev pub refusalOf : Refusal → Refused
 refusalOf (Card g) = cardRefusal g

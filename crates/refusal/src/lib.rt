@@ -42,6 +42,8 @@ pub enum CallGround {
     FaultSet,
     // The lent buffer has no room for what the call writes.
     Buffer,
+    // Some link has no return.
+    OneWay,
 }
 
 pub enum Refusal {
@@ -95,10 +97,11 @@ fn call_number(g: CallGround) -> u8
         CallGround::Inputs => 12,
         CallGround::FaultSet => 13,
         CallGround::Buffer => 14,
+        CallGround::OneWay => 15,
     }
 }
 
-// The refusal's number, 1 to 14 without 6.
+// The refusal's number, 1 to 15 without 6.
 pub fn number(r: Refusal) -> u8
     ensures { λ m. ⌜ m ≡ numberOf (refusalOf r) ⌝ }
 {

@@ -3,7 +3,7 @@
 --     count-mono    a subset has no larger count
 --     count-none    a count of nothing; count-zero the other way; count-some for a member
 --     count-beyond  servers from n on that are not in the test do not count
---     count-or      the count of a union and a meet
+--     count-or      the count of a union and a meet; count-apart of a union of sets that are apart; count-all of all servers
 --     size-count    the size of a set below 2^n is the count of its members below n
 --     size-union, size-within, size-empty, size-none   the laws of sizes
 -- Assumes nothing.
@@ -76,6 +76,18 @@ count-or (suc n) p q =
     cases (p n)
     (λ x. cases (q n) (λ y. rw (x, y) (omega arith)) (λ y. rw (x, y) (omega arith)))
     (λ x. cases (q n) (λ y. rw (x, y) (omega arith)) (λ y. rw (x, y) (omega arith)))
+
+-- the count of a union of sets that share no server below n
+pub count-apart : (n : ℕ) (p q : Set) → ((i : ℕ) → i < n → In p i → In q i → ⊥) → count n (λ (i : ℕ). p i || q i) ≡ count n p + count n q
+count-apart n p q h =
+    let e = count-or n p q in
+    let z = count-none n (λ (i : ℕ). p i && q i) (λ i k. cases (p i) (λ x. let y = is-false (q i) (h i k x) in cc) (λ x. cc)) in
+    omega arith
+
+pub count-all : (n : ℕ) (p : Set) → ((i : ℕ) → i < n → In p i) → count n p ≡ n
+unfolding count
+count-all zero p h = refl
+count-all (suc n) p h = let ih = count-all n p (λ i k. h i (omega arith)) in let e = h n (omega arith) in cc
 
 pub size-count : (n s : ℕ) → n ≤ 8 → s < 2 ^ n → size s ≡ count n (has s)
 unfolding size

@@ -1,5 +1,5 @@
 -- The lowest member of a set: a member, and no member is below it; 8 for the empty set.
---     firstIn-found, firstIn-least    a search ends at a member, or with none found; no member is passed
+--     firstIn-found, firstIn-least    a search ends at a member, or with none found; no member is passed; firstIn-most it ends within its range
 --     lowest-least, lowest-in         no member is below the lowest, and a set that is not empty has it
 --     lowest-empty                    8 for the empty set
 --     trailing-lowest                 it is how many zeros stand below the lowest digit that is set
@@ -28,6 +28,11 @@ firstIn-found (suc k) lo p =
   where
     next : (k lo : ℕ) → suc lo + k ≡ lo + suc k
     next k lo = omega arith
+
+pub firstIn-most : (k lo : ℕ) (p : Set) → firstIn k lo p ≤ lo + k
+unfolding firstIn
+firstIn-most zero lo p = omega arith
+firstIn-most (suc k) lo p = let ih = firstIn-most k (suc lo) p in cases (p lo) (λ x. rw x (omega arith)) (λ x. rw x (omega arith))
 
 pub firstIn-least : (k lo : ℕ) (p : Set) (i : ℕ) → lo ≤ i → In p i → firstIn k lo p ≤ i ⊎ (lo + k ≤ i)
 unfolding firstIn

@@ -4,7 +4,7 @@
 --     has-union     membership in a union; has-meet, has-minus likewise
 --     has-beyond    a set below 2^n has no member from n on
 --     has-full      the full set of n servers has the servers below n
---     same-members  two sets below 2^n with the same members below n are equal
+--     same-members  two sets below 2^n with the same members below n are equal; same-all for any two sets
 --     encode-has    the number of a test has the test's members; encode-small bounds it
 --     has-single    server i alone has just i
 --     meet-apart    sets with an empty meet share no member; apart-meet the other way; apart-union and its halves
@@ -221,6 +221,14 @@ same-members (suc n) a b p q h =
     let tails = same-members n (a / 2) (b / 2) (half-small n a p) (half-small n b q) (λ i k. sym (has-suc a i) ∙ h (suc i) (omega arith) ∙ has-suc b i) in
     let heads = digit-same a b (h 0 (omega arith)) in
     omega arith
+
+below-power : (n : ℕ) → n < 2 ^ n
+below-power zero = lit< tt
+below-power (suc n) = let ih = below-power n in let e = pow-double n in omega arith
+
+-- two sets with the same members, however large, are equal
+pub same-all : (a b : ℕ) → ((i : ℕ) → has a i ≡ has b i) → a ≡ b
+same-all a b h = let p = below-power (a + b) in same-members (a + b) a b (omega arith) (omega arith) (λ i k. h i)
 
 -- a set with no member is empty
 pub no-member : (n s : ℕ) → s < 2 ^ n → ((i : ℕ) → i < n → has s i ≡ false) → s ≡ 0

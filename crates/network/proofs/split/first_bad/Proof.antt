@@ -8,15 +8,16 @@ use borrow.Author.Needs.{needs}
 use Rattle.network.specs.declared.split.SplitAnswer.{SplitAnswer}
 use Rattle.network.specs.Answers.{splitAnswerOf}
 use Rattle.network.specs.Weak.{Tables}
-use Rattle.network.proofs.SourceRows.{tables-of}
+use Rattle.network.proofs.SourceRows.{halves-of}
 use Rattle.network.proofs.Scans.{Scan, Sides, Splits, limit-of, scan-starts, scan-ends, scan-past, sides-start, sides-end, sides-past, splits-start, splits-end, splits-past, splits-hit, sides-fall, splits-fall}
 use Rattle.network.proofs.split.first_bad.Statement.{statement}
 use Rattle.network.proofs.split.first_bad.Tie as tie
 use Rattle.network.proofs.split.first_bad.Reads as reads
 use Rattle.network.proofs.split.first_bad.Lts as lts
-use Rattle.network.proofs.split.half_table.Reads as half-table-reads
 use Rattle.network.proofs.split.is_weak.Reads as is-weak-reads
-use Rattle.network.proofs.split.source_rows.Reads as source-rows-reads
+use Rattle.network.proofs.sources.lower_table.Reads as lower-table-reads
+use Rattle.network.proofs.sources.source_rows.Reads as source-rows-reads
+use Rattle.network.proofs.sources.upper_table.Reads as upper-table-reads
 use Rattle.sets.proofs.full.Reads as full-reads
 use Rattle.sets.proofs.minus.Reads as minus-reads
 use Rattle.sets.proofs.next_apart.Reads as next-apart-reads
@@ -44,20 +45,20 @@ abbrev μ-scan : tie.MeasureT-scan
 -- the tables are made: they are those of the links
 tables : (c : tie.After-full Inv-loop2 μ-loop2 Inv-loop μ-loop Inv-scan μ-scan) →
     let a = c .before .before .before .before .before .args in
-    Tables (a .n) (a .links) (c .before .sizes .result) (c .before .before .before .half-table .result) (c .before .before .half-table2 .result)
-tables c = search tables-of
+    Tables (a .n) (a .links) (c .before .sizes .result) (c .before .before .before .lower-table .result) (c .before .before .upper-table .result)
+tables c = record { sized = search needs; halves = search halves-of }
 
 source-rows-requires :
     tie.Need-source-rows-requires Inv-loop2 μ-loop2 Inv-loop μ-loop Inv-scan μ-scan
 source-rows-requires c κs = search needs
 
-half-table-requires :
-    tie.Need-half-table-requires Inv-loop2 μ-loop2 Inv-loop μ-loop Inv-scan μ-scan
-half-table-requires c κs = search needs
+lower-table-requires :
+    tie.Need-lower-table-requires Inv-loop2 μ-loop2 Inv-loop μ-loop Inv-scan μ-scan
+lower-table-requires c κs = search needs
 
-half-table-requires-2 :
-    tie.Need-half-table-requires-2 Inv-loop2 μ-loop2 Inv-loop μ-loop Inv-scan μ-scan
-half-table-requires-2 c κs = search needs
+upper-table-requires :
+    tie.Need-upper-table-requires Inv-loop2 μ-loop2 Inv-loop μ-loop Inv-scan μ-scan
+upper-table-requires c κs = search needs
 
 sizes-requires : tie.Need-sizes-requires Inv-loop2 μ-loop2 Inv-loop μ-loop Inv-scan μ-scan
 sizes-requires c κs = search needs
@@ -173,8 +174,8 @@ first-bad-spec =
     Inv-scan
     μ-scan
     source-rows-requires
-    half-table-requires
-    half-table-requires-2
+    lower-table-requires
+    upper-table-requires
     sizes-requires
     full-requires
     cast-limit

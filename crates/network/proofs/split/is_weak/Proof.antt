@@ -10,23 +10,11 @@ use Rattle.network.proofs.split.is_weak.Statement.{statement}
 use Rattle.network.proofs.split.is_weak.Tie as tie
 use Rattle.network.proofs.split.is_weak.Reads as reads
 use Rattle.network.proofs.split.is_weak.Lts as lts
+use Rattle.network.proofs.sources.into.Reads as into-reads
 use Rattle.sets.proofs.minus.Reads as minus-reads
-use Rattle.sets.proofs.union.Reads as union-reads
 
-cast-low : tie.Need-cast-low
-cast-low c = search needs
-
-cast-high : tie.Need-cast-high
-cast-high c = search needs
-
-element-copy-out-union : tie.Need-element-copy-out-union
-element-copy-out-union c = search needs
-
-element-copy-out-union-2 : tie.Need-element-copy-out-union-2
-element-copy-out-union-2 c = search needs
-
-union-requires : tie.Need-union-requires
-union-requires c κs = search needs
+into-requires : tie.Need-into-requires
+into-requires c κs = search needs
 
 minus-requires : tie.Need-minus-requires
 minus-requires c κs = search needs
@@ -42,22 +30,18 @@ element-copy-out-result c = search needs
 
 returns : tie.Need-returns
 returns c = λ n links h k t.
-    let a = c .before .before .before .before .before .before .args in
+    let a = c .before .before .before .before .args in
     ap (λ (x : ℕ). leb x (a .f))
     (t .sized .entry (c .before .minus2 .result) (search needs)
     ∙ size-outside n links h (a .fault) (a .s) _ _ _
-    (λ u. halves-into n links (t .rows) h (t .sources) (a .s) k u (a .lower .now) (a .upper .now) (t .low) (t .high) _ (c .before .before .before .union .ensures))
+    (halves-into n links (a .lower .now) (a .upper .now) h (t .halves) (a .s) k _ (c .before .before .before .into .ensures))
     (c .before .before .minus .ensures) (c .before .minus2 .ensures))
 
 pub is-weak-spec : {M : Type 1} → statement M
 is-weak-spec =
     tie.close
     (tie.spec
-    cast-low
-    cast-high
-    element-copy-out-union
-    element-copy-out-union-2
-    union-requires
+    into-requires
     minus-requires
     minus-requires-2
     cast-outside

@@ -1,15 +1,15 @@
--- `network::split::half_table` meets its contract. The invariant of its loop, `Halving`: the entries below x are made. The measure is what is left of
+-- `network::sources::half_table` meets its contract. The invariant of its loop, `Halving`: the entries below x are made. The measure is what is left of
 -- the sixteen. Assumes nothing.
 use mathlib.Core.Path.{_≡_, refl}
 use Prim.Native.Nat.{_-_}
 use native.Mathlib.Omega.{arith}
 use borrow.Author.Needs.{needs}
 use Rattle.network.proofs.SourceRows.{Halving, half-starts, half-turn}
-use Rattle.network.proofs.split.half_table.Statement.{statement}
-use Rattle.network.proofs.split.half_table.Tie as tie
-use Rattle.network.proofs.split.half_table.Reads as reads
-use Rattle.network.proofs.split.half_table.Lts as lts
-use Rattle.network.proofs.split.into_half.Reads as into-half-reads
+use Rattle.network.proofs.sources.half_table.Statement.{statement}
+use Rattle.network.proofs.sources.half_table.Tie as tie
+use Rattle.network.proofs.sources.half_table.Reads as reads
+use Rattle.network.proofs.sources.half_table.Lts as lts
+use Rattle.network.proofs.sources.into_half.Reads as into-half-reads
 
 abbrev Inv-loop : tie.InvT-loop
 Inv-loop rows first table₀ x₀ table x = Halving rows first x table

@@ -1,11 +1,11 @@
--- `network::split::kept` meets its contract. By the test for membership. Assumes nothing.
+-- `network::sources::kept` meets its contract. By the test for membership. Assumes nothing.
 use mathlib.Core.Path.{sym, _∙_}
 use Prim.Native.Nat.{_-_}
 use borrow.Author.Needs.{needs}
-use Rattle.network.proofs.split.kept.Statement.{statement}
-use Rattle.network.proofs.split.kept.Tie as tie
-use Rattle.network.proofs.split.kept.Reads as reads
-use Rattle.network.proofs.split.kept.Lts as lts
+use Rattle.network.proofs.sources.kept.Statement.{statement}
+use Rattle.network.proofs.sources.kept.Tie as tie
+use Rattle.network.proofs.sources.kept.Reads as reads
+use Rattle.network.proofs.sources.kept.Lts as lts
 use Rattle.sets.proofs.member.Reads as member-reads
 
 member-requires : tie.Need-member-requires

@@ -1,15 +1,15 @@
--- `network::split::source_rows` meets its contract. The invariant of its loop, `Rows`: the rows below v are made. The measure is what is left of the
+-- `network::sources::source_rows` meets its contract. The invariant of its loop, `Rows`: the rows below v are made. The measure is what is left of the
 -- eight. Assumes nothing.
 use mathlib.Core.Path.{_≡_, refl}
 use Prim.Native.Nat.{_-_}
 use native.Mathlib.Omega.{arith}
 use borrow.Author.Needs.{needs}
 use Rattle.network.proofs.SourceRows.{Rows, rows-start, rows-turn}
-use Rattle.network.proofs.split.source_rows.Statement.{statement}
-use Rattle.network.proofs.split.source_rows.Tie as tie
-use Rattle.network.proofs.split.source_rows.Reads as reads
-use Rattle.network.proofs.split.source_rows.Lts as lts
-use Rattle.network.proofs.split.sources.Reads as sources-reads
+use Rattle.network.proofs.sources.source_rows.Statement.{statement}
+use Rattle.network.proofs.sources.source_rows.Tie as tie
+use Rattle.network.proofs.sources.source_rows.Reads as reads
+use Rattle.network.proofs.sources.source_rows.Lts as lts
+use Rattle.network.proofs.sources.sources.Reads as sources-reads
 
 abbrev Inv-loop : tie.InvT-loop
 Inv-loop links rows₀ v₀ rows v = Rows links v rows

@@ -1,4 +1,4 @@
--- `network::split::sources` meets its contract. The invariant of its loop: the row holds the servers below u with a link to v. The measure is what is
+-- `network::sources::sources` meets its contract. The invariant of its loop: the row holds the servers below u with a link to v. The measure is what is
 -- left of the eight. Assumes nothing.
 use mathlib.Core.Path.{_≡_, _∙_}
 use mathlib.Core.Logic.{_⊎_, ⊎-elim}
@@ -6,11 +6,11 @@ use Prim.Native.Nat.{_-_, _≤_}
 use native.Mathlib.Omega.{arith}
 use borrow.Author.Needs.{needs}
 use Rattle.network.proofs.SourceRows.{to-starts, to-joins, to-passes}
-use Rattle.network.specs.Weak.{SourcesOf}
-use Rattle.network.proofs.split.sources.Statement.{statement}
-use Rattle.network.proofs.split.sources.Tie as tie
-use Rattle.network.proofs.split.sources.Reads as reads
-use Rattle.network.proofs.split.sources.Lts as lts
+use Rattle.network.specs.Sources.{SourcesOf}
+use Rattle.network.proofs.sources.sources.Statement.{statement}
+use Rattle.network.proofs.sources.sources.Tie as tie
+use Rattle.network.proofs.sources.sources.Reads as reads
+use Rattle.network.proofs.sources.sources.Lts as lts
 use Rattle.sets.proofs.union.Reads as union-reads
 
 abbrev Inv-loop : tie.InvT-loop

@@ -1,12 +1,12 @@
--- `network::split::into_half` meets its contract. The union of four rows, each kept or not (`joined-four`). Assumes nothing.
+-- `network::sources::into_half` meets its contract. The union of four rows, each kept or not (`joined-four`). Assumes nothing.
 use Prim.Native.Nat.{_-_}
 use borrow.Author.Needs.{needs}
 use Rattle.network.proofs.SourceRows.{joined-four}
-use Rattle.network.proofs.split.into_half.Statement.{statement}
-use Rattle.network.proofs.split.into_half.Tie as tie
-use Rattle.network.proofs.split.into_half.Reads as reads
-use Rattle.network.proofs.split.into_half.Lts as lts
-use Rattle.network.proofs.split.kept.Reads as kept-reads
+use Rattle.network.proofs.sources.into_half.Statement.{statement}
+use Rattle.network.proofs.sources.into_half.Tie as tie
+use Rattle.network.proofs.sources.into_half.Reads as reads
+use Rattle.network.proofs.sources.into_half.Lts as lts
+use Rattle.network.proofs.sources.kept.Reads as kept-reads
 use Rattle.sets.proofs.union.Reads as union-reads
 
 array-read-kept : tie.Need-array-read-kept

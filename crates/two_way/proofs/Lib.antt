@@ -1,0 +1,16 @@
+-- Returns      links that all have a return
+-- Parts        the parts by numbers against parts into arbitrary sets, and the least number
+-- Around       the neighbours of a part are the fewest servers that cut it off
+-- Scanned      the scan over the parts
+-- Ruled        the rule's answer, as the code puts it together
+-- Counting     counts of servers between two numbers, and of the first so many of a set
+-- Rule         the older rule against Theorem 1's condition
+-- Main         what a user relies on
+pub mod Returns
+pub mod Parts
+mod Around
+mod Scanned
+mod Ruled
+mod Counting
+mod Rule
+pub mod Main
