@@ -1,7 +1,9 @@
 //! What the words of an answer say, in the types of this crate. Each function answers
 //! with `None` for words that the library's contract rules out.
 
-use crate::{CallGround, CardGround, Network, PlanGround, Quick, Refusal, ServerSet, Split, Totals};
+use crate::{
+    CallGround, CardGround, Network, PlanGround, Quick, Refusal, ServerSet, Split, Totals,
+};
 use crate::{CLEAN_CARD_LIMIT, PLAN_LIMIT};
 
 /// Lent answers start out as this, which no answer holds: a word that the library left
@@ -29,11 +31,7 @@ const MOST_BLOCKS: u64 = 1_499;
 const MOST_CARRIAGES: u64 = PLAN_LIMIT as u64;
 
 /// Why a call to run is turned back.
-const OF_A_RUN: [CallGround; 3] = [
-    CallGround::Inputs,
-    CallGround::FaultSet,
-    CallGround::Buffer,
-];
+const OF_A_RUN: [CallGround; 3] = [CallGround::Inputs, CallGround::FaultSet, CallGround::Buffer];
 
 pub fn network(answer: &[u64; 12]) -> Option<Network> {
     let [ANSWERED, n @ 2..=8, f @ 0..=2, 0, words @ ..] = *answer else {
