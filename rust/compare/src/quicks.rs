@@ -8,11 +8,13 @@
 //!
 //! - Given cards: every case of `data/quicks.tsv`, and the cards of the other data files
 //!   ([`other_given_cards`]).
-//! - Two-way networks of every size: with every number of links ([`networks_of_every_density`]),
-//!   around a cut of every size ([`networks_around_a_cut`]), and all of the small ones
-//!   ([`every_small_network`]).
+//! - Two-way networks of every size: with every number of links
+//!   ([`networks_of_every_density`]), around a cut of every size
+//!   ([`networks_around_a_cut`]), and all of the small ones ([`every_small_network`]).
 //! - Networks that are two-way but for one link ([`networks_without_one_return`]), and any
 //!   networks ([`any_networks`]).
+//! - Cards with a fault of their own and a link without a return
+//!   ([`faulty_one_way_cards`]).
 //! - Random cards, sound or damaged ([`random_cards`]), every beginning of some sound cards
 //!   ([`truncations`]), cards of every length ([`any_lengths`]).
 
@@ -23,7 +25,7 @@ mod tally;
 
 pub use given::{given_quicks, other_given_cards};
 pub use loops::{
-    any_lengths, any_networks, every_small_network, networks_around_a_cut,
+    any_lengths, any_networks, every_small_network, faulty_one_way_cards, networks_around_a_cut,
     networks_of_every_density, networks_without_one_return, random_cards, truncations,
 };
 pub use tally::Tally;

@@ -104,6 +104,16 @@ fn networks_of_any_kind() {
 }
 
 #[test]
+fn refusals_of_the_card_come_before_15() {
+    let tally = quicks::faulty_one_way_cards();
+    println!("faulty one-way: {tally}");
+    let links: usize = (2..=8).map(|n| n * (n - 1)).sum();
+    assert_eq!(tally.refused[1..6], [3 * links; 5]);
+    assert_eq!(tally.refused[15], 3 * links);
+    assert_eq!(tally.cards(), 6 * 3 * links);
+}
+
+#[test]
 fn random_cards() {
     let tally = quicks::random_cards(0..300_000);
     println!("random: {tally}");

@@ -2,9 +2,11 @@
 
 use super::tally::Tally;
 use crate::cards::{each_of_any_length, each_truncation, every_choice, sizes};
+use crate::repeated;
+use agreement::CARD_LIMIT;
 use generate::{
-    all_pairs, card, network_card, two_way_card_around, two_way_card_of, two_way_card_with,
-    without_a_link, Rng,
+    all_links, all_pairs, card, card_of, network_card, two_way_card_around, two_way_card_of,
+    two_way_card_with, without_a_link, Rng,
 };
 use std::ops::Range;
 
@@ -94,6 +96,39 @@ pub fn any_networks(rounds: u64) -> Tally {
         }
     }
     tally
+}
+
+/// For every n and f the complete network without one link, each in turn: its card as it
+/// is, and with one of the card's own faults behind the links, of each number from 1 to 5.
+pub fn faulty_one_way_cards() -> Tally {
+    let mut tally = Tally::default();
+    for (n, f) in sizes() {
+        for (u, v) in all_links(n) {
+            let mut links = all_links(n);
+            links.retain(|&link| link != (u, v));
+            let card = card_of(n, f, &links);
+            let made_by = format_args!("faulty_one_way_cards, n {n} f {f}, no link {u}-{v}");
+            tally.compare(&card, made_by);
+            for faulty in with_each_fault(&card) {
+                tally.compare(&faulty, made_by);
+            }
+        }
+    }
+    tally
+}
+
+/// The sound card made too long, without its end, with an end too many, with its opening
+/// again and with a link from a server to itself.
+fn with_each_fault(card: &[u8]) -> [Vec<u8>; 5] {
+    let (end, open) = card.split_last().expect("a sound card");
+    let (opening, links) = open.split_at(3);
+    [
+        repeated(open, links, CARD_LIMIT + 1),
+        open.to_vec(),
+        [card, &[*end]].concat(),
+        [open, opening, &[*end]].concat(),
+        [open, &[2, 0, 0, *end]].concat(),
+    ]
 }
 
 /// One random card for each seed, sound or damaged in one of many ways.
