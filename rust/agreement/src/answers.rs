@@ -1,7 +1,9 @@
 //! What the words of an answer say, in the types of this crate. Each function answers
 //! with `None` for words that the library's contract rules out.
 
-use crate::{CallGround, CardGround, Network, PlanGround, Refusal, ServerSet, Split, Totals};
+use crate::{
+    CallGround, CardGround, Network, PlanGround, Quick, Refusal, ServerSet, Split, Totals,
+};
 use crate::{CLEAN_CARD_LIMIT, PLAN_LIMIT};
 
 /// Lent answers start out as this, which no answer holds: a word that the library left
@@ -27,6 +29,9 @@ const LONGEST_CLEAN: u64 = CLEAN_CARD_LIMIT as u64;
 const MOST_BLOCKS: u64 = 1_499;
 /// No carriage takes less than a byte of its plan.
 const MOST_CARRIAGES: u64 = PLAN_LIMIT as u64;
+
+/// Why a call to run is turned back.
+const OF_A_RUN: [CallGround; 3] = [CallGround::Inputs, CallGround::FaultSet, CallGround::Buffer];
 
 pub fn network(answer: &[u64; 12]) -> Option<Network> {
     let [ANSWERED, n @ 2..=8, f @ 0..=2, 0, words @ ..] = *answer else {
@@ -61,9 +66,7 @@ pub fn printed_or_refusal(answer: [u64; 4]) -> Option<Result<usize, Refusal>> {
         }
         [REFUSED, OF_CARD, number, place] => Some(Err(of_card(number, place)?)),
         // Neither inputs nor a faulty set are handed over.
-        [REFUSED, OF_CALL, number, 0] => CallGround::of_number(number)
-            .filter(|&ground| ground == CallGround::Buffer)
-            .map(|ground| Err(Refusal::Call { ground })),
+        [REFUSED, OF_CALL, number, 0] => Some(Err(of_call(number, &[CallGround::Buffer])?)),
         _ => None,
     }
 }
@@ -78,6 +81,21 @@ pub fn split_or_refusal(answer: [u64; 5]) -> Option<Result<Option<Split>, Refusa
             r: set(r)?,
         }))),
         [REFUSED, OF_CARD, number, place, 0] => Some(Err(of_card(number, place)?)),
+        _ => None,
+    }
+}
+
+/// The answer of the quick test.
+pub fn quick_or_refusal(answer: [u64; 4]) -> Option<Result<Quick, Refusal>> {
+    match answer {
+        // Nothing is taken away that would leave fewer than one server.
+        [ANSWERED, holds @ 0..=1, n @ 2..=8, least] if least < n => Some(Ok(Quick {
+            holds: holds == 1,
+            n: n as u8,
+            least: least as u8,
+        })),
+        [REFUSED, OF_CARD, number, place] => Some(Err(of_card(number, place)?)),
+        [REFUSED, OF_CALL, number, 0] => Some(Err(of_call(number, &[CallGround::OneWay])?)),
         _ => None,
     }
 }
@@ -103,9 +121,7 @@ pub fn totals_or_refusal(answer: [u64; 4]) -> Option<Result<Totals, Refusal>> {
 /// The answer of the run.
 pub fn ran_or_refusal(answer: [u64; 4]) -> Option<Result<Totals, Refusal>> {
     match answer {
-        [REFUSED, OF_CALL, number, 0] => Some(Err(Refusal::Call {
-            ground: CallGround::of_number(number)?,
-        })),
+        [REFUSED, OF_CALL, number, 0] => Some(Err(of_call(number, &OF_A_RUN)?)),
         // Else it says what the plan check would say.
         _ => totals_or_refusal(answer),
     }
@@ -116,6 +132,13 @@ fn of_card(number: u64, place: u64) -> Option<Refusal> {
         ground: CardGround::of_number(number)?,
         place: usize::try_from(place).ok()?,
     })
+}
+
+/// The refusal of a call that can be turned back on these grounds.
+fn of_call(number: u64, grounds: &[CallGround]) -> Option<Refusal> {
+    CallGround::of_number(number)
+        .filter(|ground| grounds.contains(ground))
+        .map(|ground| Refusal::Call { ground })
 }
 
 fn set(word: u64) -> Option<ServerSet> {
@@ -139,6 +162,10 @@ mod tests {
     };
     const SHORT_BUFFER: Refusal = Refusal::Call {
         ground: CallGround::Buffer,
+    };
+
+    const ONE_WAY: Refusal = Refusal::Call {
+        ground: CallGround::OneWay,
     };
 
     #[test]
@@ -174,6 +201,21 @@ mod tests {
         assert_eq!(split_or_refusal([0; 5]), Some(Ok(None)));
         assert_eq!(split_or_refusal([1, 1, 2, 0, 4]), Some(Ok(Some(bad))));
         assert_eq!(split_or_refusal([2, 0, 5, 87, 0]), Some(Err(OUT_OF_RANGE)));
+    }
+
+    #[test]
+    fn words_of_the_quick_test_become_the_answers_they_stand_for() {
+        for n in 2..=8 {
+            for least in 0..n {
+                for holds in [false, true] {
+                    let answer = quick_or_refusal([0, holds.into(), n, least]);
+                    let (n, least) = (n as u8, least as u8);
+                    assert_eq!(answer, Some(Ok(Quick { holds, n, least })));
+                }
+            }
+        }
+        assert_eq!(quick_or_refusal([2, 0, 5, 87]), Some(Err(OUT_OF_RANGE)));
+        assert_eq!(quick_or_refusal([2, 2, 15, 0]), Some(Err(ONE_WAY)));
     }
 
     #[test]
@@ -257,6 +299,30 @@ mod tests {
             [3, 0, 0, 0, 0],
         ] {
             assert_eq!(split_or_refusal(answer), None, "{answer:?}");
+        }
+    }
+
+    #[test]
+    fn words_that_are_no_answer_of_the_quick_test_are_noticed() {
+        for answer in [
+            [UNWRITTEN; 4],
+            [0, UNWRITTEN, 4, 3],
+            [0, 1, UNWRITTEN, 3],
+            [0, 1, 4, UNWRITTEN],
+            [0, 2, 4, 3],
+            [0, 1, 1, 0],
+            [0, 1, 9, 3],
+            [0, 1, 4, 4],
+            [1, 1, 4, 3],
+            [2, 0, 6, 87],
+            [2, 0, 15, 0],
+            [2, 1, 2, 4],
+            [2, 2, 14, 0],
+            [2, 2, 15, 1],
+            [2, 2, 16, 0],
+            [2, 3, 15, 0],
+        ] {
+            assert_eq!(quick_or_refusal(answer), None, "{answer:?}");
         }
     }
 

@@ -1,6 +1,6 @@
 //! Safe functions over the proved agreement library, for networks of 2 to 8 servers of
-//! which at most 2 fail: the card reader, the card printed back, the split test, the plan
-//! check and the run.
+//! which at most 2 fail: the card reader, the card printed back, the split test, the quick
+//! test for two-way sites, the plan check and the run.
 //!
 //! The library is written and proved in Rattle and linked as a static archive; its
 //! contracts, not this crate, say why the answers are right. What is done here is to
@@ -88,6 +88,19 @@ pub struct Split {
     pub l: ServerSet,
     pub c: ServerSet,
     pub r: ServerSet,
+}
+
+/// What the older rule for two-way sites says: `n` is at least 3f+1, and `least`, the
+/// number of servers to be taken away before the rest falls apart, at least 2f+1.
+#[derive(Debug, Clone, Copy, PartialEq, Eq)]
+pub struct Quick {
+    /// Whether both hold.
+    pub holds: bool,
+    /// Number of servers, 2 to 8.
+    pub n: u8,
+    /// The least number of servers that leave two parts without a link between them when
+    /// they are taken away; n - 1 where no number does, as all servers are linked.
+    pub least: u8,
 }
 
 /// How much an accepted plan has.
@@ -207,6 +220,28 @@ pub fn split_test(card: &[u8]) -> Result<Option<Split>, Refusal> {
     unsafe { library::agreement_split_test(card.as_ptr(), card.len(), &mut answer) };
     answers::split_or_refusal(answer)
         .unwrap_or_else(|| panic!("the split test cannot answer {answer:?} on {card:02x?}"))
+}
+
+/// Answers with what the older rule says of the network on `card`, if each of its links
+/// has a return; one that has none is refused, after the card's own refusals.
+///
+/// The rule holds exactly if [`split_test`] finds no bad split.
+///
+/// ```
+/// // Three offices in a row, links both ways.
+/// let card = [0x01, 3, 0, 0x02, 0, 1, 0x02, 1, 0, 0x02, 1, 2, 0x02, 2, 1, 0x03];
+/// let quick = agreement::quick_test(&card)?;
+/// assert!(quick.holds && (quick.n, quick.least) == (3, 1));
+/// # Ok::<(), agreement::Refusal>(())
+/// ```
+pub fn quick_test(card: &[u8]) -> Result<Quick, Refusal> {
+    let mut answer = [UNWRITTEN; 4];
+    // SAFETY: pointer and length are those of one live slice, which is only read;
+    // an empty slice's pointer is not null either. `answer` is lent for the call
+    // alone and nothing else refers to it.
+    unsafe { library::agreement_quick_test(card.as_ptr(), card.len(), &mut answer) };
+    answers::quick_or_refusal(answer)
+        .unwrap_or_else(|| panic!("the quick test cannot answer {answer:?} on {card:02x?}"))
 }
 
 /// Answers with the number of blocks and of carriages of `plan` if it is a sound

@@ -22,6 +22,10 @@ extern "C" {
     /// one, or {2, whose, number, place, 0} for a refusal.
     pub fn agreement_split_test(card: *const u8, length: usize, answer: *mut [u64; 5]);
 
+    /// Writes {0, 1 if the older rule holds or 0, n, least number}, or {2, whose, number,
+    /// place} for a refusal.
+    pub fn agreement_quick_test(card: *const u8, length: usize, answer: *mut [u64; 4]);
+
     /// Writes {0, blocks, carriages, 0}, or {2, whose, number, place} for a refusal.
     pub fn agreement_check_plan(
         card: *const u8,

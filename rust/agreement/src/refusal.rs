@@ -139,6 +139,7 @@ grounds! {
         Inputs = 12, "the inputs are not n bytes of 0 or 1";
         FaultSet = 13, "the faulty set has more than f servers, or one that is not in the network";
         Buffer = 14, "the lent buffer has fewer than n bytes or, to print a card, fewer than the card to be written";
+        OneWay = 15, "some link has no return";
     }
 }
 
@@ -160,7 +161,7 @@ mod tests {
             let call = CallGround::of_number(number).map(CallGround::number);
             assert_eq!(
                 call.map(u64::from),
-                (12..=14).contains(&number).then_some(number)
+                (12..=15).contains(&number).then_some(number)
             );
         }
     }

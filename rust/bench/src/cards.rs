@@ -6,8 +6,8 @@ use compare::converted;
 use generate::{all_links, card_of, complete_card, MOST_LINKS};
 use reference::{Refusal, Split};
 
-const N: u8 = 8;
-const F: u8 = 2;
+pub const N: u8 = 8;
+pub const F: u8 = 2;
 
 /// A card with a name for the table and the split test's answer on it.
 pub struct Case {
@@ -110,14 +110,14 @@ fn late_bad_split() -> Vec<u8> {
 }
 
 /// The complete network with as many link commands as a card has room for.
-fn longest_card() -> Vec<u8> {
+pub fn longest_card() -> Vec<u8> {
     let links: Vec<(u8, u8)> = all_links(N).into_iter().cycle().take(MOST_LINKS).collect();
     card_of(N, F, &links)
 }
 
 /// The complete network's card, but with a link from server 4 to itself where the first
 /// of the second half should stand.
-fn refused_halfway() -> Vec<u8> {
+pub fn refused_halfway() -> Vec<u8> {
     let mut links = all_links(N);
     links[28] = (4, 4);
     card_of(N, F, &links)

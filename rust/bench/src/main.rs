@@ -10,7 +10,8 @@
 //! alike.
 //!
 //! Where `AGREEMENT_BEFORE` is the absolute path of an older libagreement.a, the same
-//! tables follow with that one in the reference's place.
+//! tables follow with that one in the reference's place, those of the quick test aside: an
+//! older archive need not have it.
 
 #![cfg_attr(not(before), forbid(unsafe_code))]
 #![cfg_attr(before, deny(unsafe_code))]
@@ -21,6 +22,7 @@ mod before;
 mod cards;
 mod clock;
 mod plans;
+mod quicks;
 mod runs;
 
 use agreement::CLEAN_CARD_LIMIT;
@@ -41,6 +43,10 @@ fn main() {
     for case in &cases {
         case.assert_answers();
     }
+    let quicks = quicks::cases();
+    for case in &quicks {
+        case.assert_answers();
+    }
     let plans = plans::cases();
     for case in &plans {
         case.assert_answers();
@@ -49,12 +55,17 @@ fn main() {
     for case in &runs {
         case.assert_answers();
     }
-    beside_reference(&cases, &plans, &runs);
+    beside_reference(&cases, &quicks, &plans, &runs);
     #[cfg(before)]
     before::tables(&cases, &plans, &runs);
 }
 
-fn beside_reference(cases: &[cards::Case], plans: &[plans::Case], runs: &[runs::Case]) {
+fn beside_reference(
+    cases: &[cards::Case],
+    quicks: &[quicks::Case],
+    plans: &[plans::Case],
+    runs: &[runs::Case],
+) {
     println!();
     heading("split test", "reference");
     for case in cases {
@@ -62,6 +73,25 @@ fn beside_reference(cases: &[cards::Case], plans: &[plans::Case], runs: &[runs::
             case.name,
             || agreement::split_test(black_box(&case.card)),
             || reference::split_test(black_box(&case.card)),
+        );
+    }
+    println!();
+    heading("quick test", "reference");
+    for case in quicks {
+        row(
+            case.name,
+            || agreement::quick_test(black_box(&case.card)),
+            || reference::quick_test(black_box(&case.card)),
+        );
+    }
+    println!();
+    // Both are the library's. The quick test is to take at most twice the split test's time.
+    columns("quick test beside split test", "quick", "split");
+    for case in quicks::good_networks() {
+        row(
+            case.name,
+            || agreement::quick_test(black_box(&case.card)),
+            || agreement::split_test(black_box(&case.card)),
         );
     }
     println!();
@@ -114,15 +144,17 @@ fn printed<A>(card: &[u8], print: impl Fn(&[u8], &mut [u8]) -> A) -> (A, [u8; CL
 }
 
 fn heading(function: &str, other: &str) {
-    println!(
-        "{function:<44} {:>10} {other:>10} {:>15}",
-        "ours",
-        format!("ours/{other}")
-    );
+    columns(function, "ours", other);
 }
 
-fn row<A, B>(name: &str, ours: impl Fn() -> A, other: impl Fn() -> B) {
-    let times = nanoseconds_per_call(ours, other);
+/// The names of a table's columns, the first two being those of the times.
+fn columns(title: &str, one: &str, other: &str) {
+    let ratio = format!("{one}/{other}");
+    println!("{title:<44} {one:>10} {other:>10} {ratio:>15}");
+}
+
+fn row<A, B>(name: &str, one: impl Fn() -> A, other: impl Fn() -> B) {
+    let times = nanoseconds_per_call(one, other);
     println!(
         "{name:<44} {:>10.1} {:>10.1} {:>15.3}",
         times.one, times.other, times.ratio

@@ -13,4 +13,4 @@ pub use loops::{
 pub use tally::Tally;
 
 pub(crate) use given::CARDS;
-pub(crate) use loops::{each_of_any_length, each_truncation, sizes, small_networks};
+pub(crate) use loops::{each_of_any_length, each_truncation, every_choice, sizes, small_networks};

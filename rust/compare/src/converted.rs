@@ -2,7 +2,7 @@
 //! The two crates share no type: the wrapper stands alone, and so does the reference.
 
 use agreement::ServerSet;
-use reference::{Network, Refusal, Split, Totals};
+use reference::{Network, Quick, Refusal, Split, Totals};
 
 /// A mark for each pair of the eight servers that there can be, as the reference has it:
 /// a link that cannot be is a difference too.
@@ -16,6 +16,12 @@ pub fn split(split: agreement::Split) -> Split {
     let agreement::Split { f, l, c, r } = split;
     let [f, l, c, r] = [f, l, c, r].map(ServerSet::bits);
     Split { f, l, c, r }
+}
+
+/// What the quick test answers.
+pub fn quick(answer: Result<agreement::Quick, agreement::Refusal>) -> Result<Quick, Refusal> {
+    let agreement::Quick { holds, n, least } = answer.map_err(refusal)?;
+    Ok(Quick { holds, n, least })
 }
 
 /// What the plan check or the run answers.

@@ -28,6 +28,7 @@ pub mod converted;
 pub mod documents;
 pub mod plans;
 pub mod prints;
+pub mod quicks;
 pub mod rehearsals;
 pub mod runs;
 mod text;

@@ -15,6 +15,7 @@ mod plans;
 mod rng;
 mod routes;
 mod twins;
+mod two_way;
 
 pub use calls::{aimed_table, faulty, inputs, lent, table, AIMS};
 pub use cards::{
@@ -26,3 +27,6 @@ pub use draft::places;
 pub use plans::{broken_off_plan, plan, plan_like_bytes};
 pub use rng::Rng;
 pub use twins::{with_twins, MOST_LINKS};
+pub use two_way::{
+    all_pairs, two_way_card_around, two_way_card_of, two_way_card_with, without_a_link,
+};

@@ -8,7 +8,7 @@ use crate::rng::Rng;
 /// The most link commands that a card has room for, between the opening and the end.
 pub const MOST_LINKS: usize = (CARD_LIMIT - 1) / COMMAND_SIZE - 1;
 
-type Link = (u8, u8);
+pub(crate) type Link = (u8, u8);
 
 /// Lists each of the given links at least once, and some of them again.
 type Lister = fn(&mut Rng, &[Link]) -> Vec<Link>;
@@ -35,7 +35,7 @@ pub fn with_twins(rng: &mut Rng, card: &[u8]) -> Vec<u8> {
 }
 
 /// The links of a sound card in the order given.
-fn links_of(card: &[u8]) -> Vec<Link> {
+pub(crate) fn links_of(card: &[u8]) -> Vec<Link> {
     let commands = card[COMMAND_SIZE..card.len() - 1].chunks(COMMAND_SIZE);
     commands.map(|command| (command[1], command[2])).collect()
 }

@@ -3,9 +3,11 @@
 //! A *network card* describes up to eight servers and the one-way links between
 //! them. A card patched by hand can be *printed back* as a clean one, with each link
 //! once and in order. The *split test* says whether Byzantine agreement is possible
-//! at all on the network (Theorem 1 of Tseng and Vaidya). A *route plan* fixes every
-//! route that their Algorithm BC uses, block by block. The *run* plays all blocks of
-//! an accepted plan and answers with the bit each sound server decides.
+//! at all on the network (Theorem 1 of Tseng and Vaidya). Where every link has a
+//! return, the *quick test* says the same by an older rule, from the number of servers
+//! and how many of them must be taken away before the rest falls apart. A *route plan*
+//! fixes every route that their Algorithm BC uses, block by block. The *run* plays all
+//! blocks of an accepted plan and answers with the bit each sound server decides.
 //!
 //! A set of servers is one byte throughout, server `i` standing for `1 << i`.
 //!
@@ -17,6 +19,7 @@
 mod card;
 mod plan;
 mod print;
+mod quick;
 mod refusal;
 mod rehearse;
 mod run;
@@ -29,6 +32,7 @@ mod sample;
 pub use card::{read_card, Network};
 pub use plan::{check_plan, Totals};
 pub use print::print_card;
+pub use quick::{quick_test, Quick};
 pub use refusal::Refusal;
 pub use rehearse::rehearse;
 pub use run::{run, values_by_block};

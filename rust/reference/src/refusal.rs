@@ -11,7 +11,7 @@ pub enum Refusal {
     Card { number: u8, place: usize },
     /// The route plan is at fault (numbers 1 to 3 and 7 to 11).
     Plan { number: u8, place: usize },
-    /// The rest of the call is at fault (numbers 12 to 14).
+    /// The rest of the call is at fault (numbers 12 to 15).
     Call { number: u8 },
 }
 
@@ -44,4 +44,6 @@ pub(crate) mod ground {
     /// Call: the lent buffer is too short: under n bytes for a run, or shorter than
     /// the card to be written when a card is printed back.
     pub const SHORT_BUFFER: u8 = 14;
+    /// Call: some link of the card has no return, which the quick test is not for.
+    pub const NO_RETURN: u8 = 15;
 }

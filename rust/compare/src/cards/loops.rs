@@ -36,12 +36,16 @@ pub fn every_small_network() -> Tally {
 pub(crate) fn small_networks() -> impl Iterator<Item = (u8, u8, Vec<u8>)> {
     let small = sizes().filter(|&(n, _)| n <= 4);
     small.flat_map(|(n, f)| {
-        let all = all_links(n);
-        (0..1u32 << all.len()).map(move |chosen| {
-            let places = (0..all.len()).filter(|place| chosen >> place & 1 == 1);
-            let links: Vec<(u8, u8)> = places.map(|place| all[place]).collect();
-            (n, f, card_of(n, f, &links))
-        })
+        let choices = every_choice(all_links(n));
+        choices.map(move |links| (n, f, card_of(n, f, &links)))
+    })
+}
+
+/// Every choice among the links, from none of them to all; each keeps their order.
+pub(crate) fn every_choice(all: Vec<(u8, u8)>) -> impl Iterator<Item = Vec<(u8, u8)>> {
+    (0..1u32 << all.len()).map(move |chosen| {
+        let places = (0..all.len()).filter(|place| chosen >> place & 1 == 1);
+        places.map(|place| all[place]).collect()
     })
 }
 
