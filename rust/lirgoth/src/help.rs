@@ -69,6 +69,11 @@ Says in words whether the offices of SITE/network.card can agree, and else which
 could be split and why; whether SITE/network.plan is accepted; and what each office shows
 after the run of SITE/run.in. A refusal comes with its number, its place and what stands
 there. A file that is missing is named on standard error, and the status is then 2.
+
+On a two-way site, where each link has a return, it also says what the older rule says: if
+f may fail, there must be at least 3f+1 offices, and at least 2f+1 of them must be taken
+away before the rest falls apart. Both numbers are told, with the offices that leave the
+rest apart. The rule holds exactly where there is no bad split.
 ";
 
 pub const DRILL: &str = "\
@@ -97,5 +102,7 @@ lirgoth picture SITE
 
 Writes the network of SITE/network.card as an SVG picture on standard output: offices in
 a ring, one-way links as arrows, two-way links as plain lines. Where the network has a bad
-split its sets are coloured and explained, and the status is 1.
+split its sets are coloured and explained, and the status is 1. On a two-way site that has
+none, offices that leave the rest apart when they are taken away are coloured and have the
+letter K: as few as can be, and none where all links are there.
 ";

@@ -8,6 +8,7 @@
 #![forbid(unsafe_code)]
 
 mod answer;
+mod apart;
 mod args;
 mod chart;
 mod drill;

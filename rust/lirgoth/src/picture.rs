@@ -20,20 +20,29 @@ mod tests;
 mod text;
 mod words;
 
+use crate::apart::Apart;
 use crate::names::Names;
 use agreement::{Network, ServerSet, Split};
 use legend::Entry;
 use links::Link;
 
-/// An SVG file that shows `network`: its offices in a ring, its links, and in words whether the
-/// offices can agree. `split` is what the split test answers for the network; a bad split is shown
-/// with the reason why no plan can help.
+/// An SVG file that shows `network`: its offices in a ring, its links, in words whether the offices
+/// can agree, and what there is to be marked.
 ///
 /// The text is the same for the same arguments on every machine. A name with characters that XML
 /// cannot hold is drawn with replacement characters.
-pub fn svg(network: &Network, names: &Names, split: Option<Split>) -> String {
-    let content = content(network, names, split);
+pub fn svg(network: &Network, names: &Names, mark: Option<Mark>) -> String {
+    let content = content(network, names, mark);
     draw::document(&content, &layout::page(&content))
+}
+
+/// What is marked in a picture.
+#[derive(Debug, Clone, Copy, PartialEq, Eq)]
+pub enum Mark {
+    /// A bad split, with the reason why no plan can help.
+    Split(Split),
+    /// How a two-way site that has no bad split falls apart.
+    Apart(Apart),
 }
 
 /// What a picture shows, before anything has a place.
@@ -55,18 +64,19 @@ struct Office {
     radius: f64,
 }
 
-/// The four sets of a bad split, in the order in which the legend explains them: first who stands
-/// aside, then the two sides.
+/// The sets that are marked. The four of a bad split stand in the order in which the legend explains
+/// them: first who stands aside, then the two sides. K is taken away from a two-way site.
 #[derive(Debug, Clone, Copy, PartialEq, Eq)]
 enum Part {
     F,
     C,
     L,
     R,
+    K,
 }
 
 impl Part {
-    const ALL: [Part; 4] = [Part::F, Part::C, Part::L, Part::R];
+    const ALL: [Part; 5] = [Part::F, Part::C, Part::L, Part::R, Part::K];
 
     fn letter(self) -> char {
         match self {
@@ -74,40 +84,41 @@ impl Part {
             Part::C => 'C',
             Part::L => 'L',
             Part::R => 'R',
+            Part::K => 'K',
         }
     }
 
-    fn members(self, split: &Split) -> ServerSet {
-        match self {
-            Part::F => split.f,
-            Part::C => split.c,
-            Part::L => split.l,
-            Part::R => split.r,
+    fn members(self, mark: &Mark) -> ServerSet {
+        match (self, mark) {
+            (Part::F, Mark::Split(split)) => split.f,
+            (Part::C, Mark::Split(split)) => split.c,
+            (Part::L, Mark::Split(split)) => split.l,
+            (Part::R, Mark::Split(split)) => split.r,
+            (Part::K, Mark::Apart(apart)) => apart.taken,
+            _ => ServerSet::EMPTY,
         }
     }
 
     /// The set that `office` is in.
-    fn of(office: u8, split: &Split) -> Option<Part> {
+    fn of(office: u8, mark: &Mark) -> Option<Part> {
         Part::ALL
             .into_iter()
-            .find(|part| part.members(split).contains(office))
+            .find(|part| part.members(mark).contains(office))
     }
 }
 
-fn content(network: &Network, names: &Names, split: Option<Split>) -> Content {
+fn content(network: &Network, names: &Names, mark: Option<Mark>) -> Content {
     let clean: Vec<Option<String>> = (0..network.n)
         .map(|office| names.name(office).and_then(text::clean))
         .collect();
     let in_prose = clean.iter().map(|name| name.as_deref().map(text::in_prose));
     let names = Names::new(in_prose.collect());
-    let verdict = words::verdict(network, split.is_some());
-    let links = links::of(network, split);
-    let why = split.map_or(Vec::new(), |split| {
-        legend::of_split(network, &names, &split)
-    });
+    let verdict = words::verdict(network, matches!(mark, Some(Mark::Split(_))));
+    let links = links::of(network, mark);
+    let why = mark.map_or(Vec::new(), |mark| legend::of_mark(network, &names, &mark));
     let office = |(office, name)| Office {
         name,
-        part: split.and_then(|split| Part::of(office, &split)),
+        part: mark.and_then(|mark| Part::of(office, &mark)),
         radius: ring::RADIUS,
     };
     Content {

@@ -2,13 +2,14 @@
 //! so in words; all else is an answer.
 
 use crate::answer::{Answer, REFUSED};
+use crate::apart::apart;
 use crate::args::{Args, Known};
 use crate::chart::{self, Chart};
 use crate::drill::{self, all_inputs, Drilled};
 use crate::explain;
 use crate::help;
 use crate::lies::Lies;
-use crate::picture;
+use crate::picture::{self, Mark};
 use crate::progress::Progress;
 use crate::refused;
 use crate::site::{self, Site, Unreadable, CARD, CHART, RUN};
@@ -234,8 +235,13 @@ fn picture_of(site: Site) -> Result<Answer, Unreadable> {
         Ok(split) => split,
         Err(refusal) => return Ok(refused_card(refusal, &card)),
     };
+    let mark = match split {
+        Some(split) => Some(Mark::Split(split)),
+        None if agreement::quick_test(&card).is_ok() => apart(&network).map(Mark::Apart),
+        None => None,
+    };
     let (names, note) = site.names(&network);
-    let mut answer = Answer::of(picture::svg(&network, &names, split));
+    let mut answer = Answer::of(picture::svg(&network, &names, mark));
     answer.notes.extend(note);
     Ok(match split {
         Some(_) => answer.refused(),

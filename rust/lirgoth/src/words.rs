@@ -1,5 +1,6 @@
 //! Words that several verbs use.
 
+use crate::apart::Apart;
 use crate::names::Names;
 use agreement::{Network, ServerSet, Split};
 
@@ -48,6 +49,22 @@ pub fn hearing(side: ServerSet, network: &Network, names: &Names, split: &Split)
 
 /// What follows from a bad split.
 pub const SO: &str = "so L could show open while R shows closed, and no plan can help";
+
+/// How many offices the older rule for two-way sites wants, and how many of them to be
+/// taken away before the rest falls apart.
+pub fn wanted(f: u8) -> (u8, u8) {
+    (3 * f + 1, 2 * f + 1)
+}
+
+/// Which offices leave the rest apart when they are taken away.
+pub fn taking_away(apart: &Apart, names: &Names) -> String {
+    let [one, other] = [apart.one, apart.other].map(|part| names.offices(part));
+    if apart.taken.is_empty() {
+        return format!("the offices are apart as they are: {one} from {other}");
+    }
+    let taken = names.offices(apart.taken);
+    format!("taking away {taken} leaves {one} apart from {other}")
+}
 
 /// A whole sentence from its words.
 pub fn sentence(words: &str) -> String {
@@ -105,6 +122,29 @@ pub fn ordinal(index: usize) -> String {
 #[cfg(test)]
 mod tests {
     use super::*;
+
+    #[test]
+    fn offices_that_are_taken_away_are_told_with_the_two_parts() {
+        let told = |sets: [u8; 3], names: &Names| {
+            let [taken, one, other] = sets.map(ServerSet::from_bits);
+            taking_away(&Apart { taken, one, other }, names)
+        };
+        let called = ["Geneva", "Oslo", "Lima", "Pusan", "Dakar"];
+        let called = Names::new(called.map(|name| Some(name.to_string())).to_vec());
+        assert_eq!(
+            told([0b110, 0b1, 0b1_1000], &called),
+            "taking away offices 1 (Oslo), 2 (Lima) leaves office 0 (Geneva) apart from \
+             offices 3 (Pusan), 4 (Dakar)"
+        );
+        assert_eq!(
+            told([0b1, 0b10, 0b100], &Names::default()),
+            "taking away office 0 leaves office 1 apart from office 2"
+        );
+        assert_eq!(
+            told([0, 0b11, 0b100], &Names::default()),
+            "the offices are apart as they are: offices 0 1 from office 2"
+        );
+    }
 
     #[test]
     fn numbers_are_written_in_groups_of_three() {

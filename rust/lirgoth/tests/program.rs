@@ -1,6 +1,6 @@
 //! The program as an installer runs it: what it prints, and its status.
 
-use generate::{complete_card, network_card, with_twins, Rng};
+use generate::{card_of, complete_card, network_card, with_twins, Rng};
 use std::fs;
 use std::path::{Path, PathBuf};
 use std::process::{Command, Output};
@@ -317,6 +317,7 @@ fn the_example_sites_in_words() {
         ("dry-bulk", ANSWERED),
         ("patched", ANSWERED),
         ("ship", ANSWERED),
+        ("shore", ANSWERED),
         ("small", ANSWERED),
         ("tanker", REFUSED),
         ("two-regions", REFUSED),
@@ -346,6 +347,197 @@ fn the_example_sites_in_words() {
             "{site}"
         );
     }
+}
+
+#[test]
+fn the_drill_with_split_lies_is_the_run_of_shore() {
+    let site = copy_of("shore");
+    let drill = [
+        "drill",
+        &site.shown(""),
+        "--faulty",
+        "3",
+        "--inputs",
+        "111000",
+        "--lies",
+        "split",
+        "--write",
+    ];
+    let printed = out(&drill, ANSWERED);
+    let shows = |line: &&str| line.ends_with(" and shows closed");
+    assert_eq!(printed.lines().filter(shows).count(), 5, "{printed}");
+    let [stored, given] = [
+        site.path("run.in"),
+        Path::new(&example("shore")).join("run.in"),
+    ]
+    .map(|path| fs::read(path).expect("it is there"));
+    assert_eq!(stored, given);
+}
+
+#[test]
+fn shore_is_two_regions_with_two_more_links_each_way() {
+    let links = |site: &str| -> Vec<String> {
+        let card = out(&["print", "--hex", &example(site)], ANSWERED);
+        let links = card.lines().filter(|line| line.starts_with("02"));
+        links.map(str::to_string).collect()
+    };
+    let (shore, regions) = (links("shore"), links("two-regions"));
+    assert!(regions.iter().all(|link| shore.contains(link)));
+    assert_eq!(shore.len(), regions.len() + 4);
+    let picture = out(&["picture", &example("shore")], ANSWERED);
+    assert_eq!(marked(&picture), 4);
+}
+
+/// The card of a site with these links and their returns.
+fn two_way_card(n: u8, f: u8, pairs: &[(u8, u8)]) -> Vec<u8> {
+    let both_ways = |&(u, v)| [(u, v), (v, u)];
+    let links: Vec<(u8, u8)> = pairs.iter().flat_map(both_ways).collect();
+    card_of(n, f, &links)
+}
+
+/// What `explain` says of a card alone, and the picture of it.
+fn told(card: &[u8], has_bad_split: bool) -> (String, String) {
+    let site = Folder::with(&[("network.card", card)]);
+    let own = site.0.display().to_string();
+    let (explained, drawn) = match has_bad_split {
+        true => (REFUSED, REFUSED),
+        // There is no plan.
+        false => (UNUSABLE, ANSWERED),
+    };
+    (
+        out(&["explain", &own], explained),
+        out(&["picture", &own], drawn),
+    )
+}
+
+/// How often the picture has the letter K: once for each office that is marked, once in the legend.
+fn marked(picture: &str) -> usize {
+    picture.matches(">K</text>").count()
+}
+
+#[test]
+fn two_way_sites_by_the_older_rule() {
+    // All links, and as many offices as are wanted.
+    let (explained, picture) = told(&complete_card(4, 1), false);
+    assert_eq!(
+        explained,
+        "4 offices, at most 1 may fail, 12 links\n\
+         two-way site, by the older rule: 4 offices (at least 4 wanted), \
+         3 must be taken away before the rest falls apart (at least 3 wanted): the rule holds\n  \
+         no offices leave the rest apart, as every two are linked: \
+         the rule counts this as 3, one less than there are offices\n\
+         no bad split: the offices can agree, whichever one of them fails\n"
+    );
+    assert_eq!(marked(&picture), 0);
+
+    // All links, and too few offices.
+    let (explained, picture) = told(&complete_card(6, 2), true);
+    assert!(
+        explained.starts_with(
+            "6 offices, at most 2 may fail, 30 links\n\
+             two-way site, by the older rule: 6 offices (at least 7 wanted), \
+             5 must be taken away before the rest falls apart (at least 5 wanted): \
+             the rule fails, as there are too few offices\n  \
+             no offices leave the rest apart, as every two are linked: \
+             the rule counts this as 5, one less than there are offices\n\
+             bad split (F 0 1, L 2 3, C none, R 4 5): "
+        ),
+        "{explained}"
+    );
+    assert_eq!(marked(&picture), 0);
+
+    // Both fall short.
+    let (explained, _) = told(&two_way_card(3, 1, &[(0, 1), (1, 2)]), true);
+    assert!(
+        explained.starts_with(
+            "3 offices, at most 1 may fail, 4 links\n\
+             two-way site, by the older rule: 3 offices (at least 4 wanted), \
+             1 must be taken away before the rest falls apart (at least 3 wanted): \
+             the rule fails, as there are too few offices and the rest falls apart too soon\n  \
+             taking away office 1 leaves office 0 apart from office 2\n\
+             bad split ("
+        ),
+        "{explained}"
+    );
+
+    // Enough offices, and a ring is cut at two places. The picture has the bad split alone.
+    let ring = two_way_card(5, 1, &[(0, 1), (1, 2), (2, 3), (3, 4), (4, 0)]);
+    let (explained, picture) = told(&ring, true);
+    assert!(
+        explained.starts_with(
+            "5 offices, at most 1 may fail, 10 links\n\
+             two-way site, by the older rule: 5 offices (at least 4 wanted), \
+             2 must be taken away before the rest falls apart (at least 3 wanted): \
+             the rule fails, as the rest falls apart too soon\n  \
+             taking away offices 0 2 leaves office 1 apart from offices 3 4\n\
+             bad split ("
+        ),
+        "{explained}"
+    );
+    assert_eq!(marked(&picture), 0);
+
+    // Where none may fail a row will do, and its picture says where it can be cut.
+    let (explained, picture) = told(&two_way_card(3, 0, &[(0, 1), (1, 2)]), false);
+    assert_eq!(
+        explained,
+        "3 offices, none may fail, 4 links\n\
+         two-way site, by the older rule: 3 offices (at least 1 wanted), \
+         1 must be taken away before the rest falls apart (at least 1 wanted): the rule holds\n  \
+         taking away office 1 leaves office 0 apart from office 2\n\
+         no bad split: the offices can agree, as long as none of them fails\n"
+    );
+    assert_eq!(marked(&picture), 2);
+
+    // No links at all.
+    let (explained, _) = told(&two_way_card(4, 1, &[]), true);
+    assert!(
+        explained.contains("\n  the offices are apart as they are: office 0 from offices 1 2 3\n"),
+        "{explained}"
+    );
+}
+
+#[test]
+fn the_older_rule_is_told_exactly_of_two_way_sites_and_holds_without_a_bad_split() {
+    let mut rng = Rng::new(7);
+    let mut seen = [0; 3];
+    for round in 0..90 {
+        let n = 2 + (round % 7) as u8;
+        let mut links = generate::all_links(n);
+        links.retain(|(u, v)| u < v && rng.below(6) > 0);
+        let f = (round % 3) as u8;
+        let card = two_way_card(n, f, &links);
+        let good = agreement::split_test(&card) == Ok(None);
+        let (explained, picture) = told(&card, !good);
+        let says = |words: &str| explained.contains(words);
+        assert!(says("\ntwo-way site, by the older rule: "), "{explained}");
+        assert_eq!(says(": the rule holds\n"), good, "{explained}");
+        assert_eq!(says(": the rule fails, as "), !good, "{explained}");
+        let least = agreement::quick_test(&card).expect("two-way").least;
+        let all_links = links.len() == generate::all_links(n).len() / 2;
+        let letters = match good && !all_links {
+            true => usize::from(least) + 1,
+            false => 0,
+        };
+        assert_eq!(marked(&picture), letters, "{explained}");
+        seen[usize::from(good) + usize::from(letters > 0)] += 1;
+
+        // Without one of the returns nothing is said of the rule, and nothing is taken away.
+        let Some(&(u, v)) = links.first() else {
+            continue;
+        };
+        let network = agreement::read_card(&card).expect("a sound card");
+        let one_less = generate::all_links(n)
+            .into_iter()
+            .filter(|&(a, b)| network.linked(a, b) && (a, b) != (v, u));
+        let card = card_of(n, f, &one_less.collect::<Vec<_>>());
+        let (explained, picture) = told(&card, agreement::split_test(&card) != Ok(None));
+        assert!(!explained.contains("two-way site"), "{explained}");
+        assert_eq!(
+            (marked(&picture), picture.contains("Two-way site")),
+            (0, false)
+        );
+    }
+    assert!(seen.iter().all(|&count| count > 5), "{seen:?}");
 }
 
 #[test]

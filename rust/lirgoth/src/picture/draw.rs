@@ -21,6 +21,7 @@ fn colours(part: Part) -> (&'static str, &'static str) {
         Part::C => ("#f0e442", "black"),
         Part::L => ("#0072b2", "white"),
         Part::R => ("#e69f00", "black"),
+        Part::K => ("#009e73", "black"),
     }
 }
 
@@ -37,7 +38,7 @@ fn pen(weight: Weight) -> String {
     match weight {
         Weight::Plain => THIN.to_string(),
         Weight::Heard => THICK.to_string(),
-        Weight::LeftOut => format!("{THIN} {DASHES}"),
+        Weight::LeftOut | Weight::Taken => format!("{THIN} {DASHES}"),
     }
 }
 
@@ -77,7 +78,7 @@ fn root(page: &Page) -> String {
 /// Thick links over thin ones, and the heads over all lines, so that no line crosses a head.
 fn strokes(file: &mut Writer, class: &str, strokes: &[Stroke]) {
     file.group(&format!(r#"g class="{class}""#), |file| {
-        for weight in [Weight::LeftOut, Weight::Plain, Weight::Heard] {
+        for weight in [Weight::LeftOut, Weight::Taken, Weight::Plain, Weight::Heard] {
             let those = strokes.iter().filter(|stroke| stroke.weight == weight);
             let lines: Vec<String> = those.map(line).collect();
             file.group_of(&format!("g {}", pen(weight)), &lines);

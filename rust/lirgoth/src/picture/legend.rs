@@ -2,9 +2,9 @@
 
 use super::links::{Link, Ways, Weight};
 use super::words;
-use super::Part;
+use super::{Mark, Part};
 use crate::names::Names;
-use agreement::{Network, Split};
+use agreement::Network;
 use std::iter;
 
 /// A row of the legend.
@@ -39,23 +39,28 @@ pub fn of_links(links: &[Link]) -> Vec<Entry> {
         goes(Ways::One).then(|| row(Ways::One, Weight::Plain, words::ONE_WAY)),
         of_weight(Weight::Heard, words::THICK),
         of_weight(Weight::LeftOut, words::DASHED),
+        of_weight(Weight::Taken, words::TAKEN),
     ];
     rows.into_iter().flatten().collect()
 }
 
-/// Rows that say which offices a bad split parts and why, with a row for each of its sets that has
-/// an office.
-pub fn of_split(network: &Network, names: &Names, split: &Split) -> Vec<Entry> {
+/// Rows that say what is marked and why, with a row for each of its sets that has an office.
+pub fn of_mark(network: &Network, names: &Names, mark: &Mark) -> Vec<Entry> {
     let parts = Part::ALL
         .into_iter()
-        .filter(|part| !part.members(split).is_empty())
+        .filter(|part| !part.members(mark).is_empty())
         .map(|part| Entry {
             symbol: Some(Symbol::Part(part)),
-            text: words::of_part(part, network, names, split),
+            text: words::of_part(part, network, names, mark),
         });
-    iter::once(sentence(words::of_split(names, split)))
+    let (before, after) = match mark {
+        Mark::Split(split) => (words::of_split(names, split), Some(words::so())),
+        Mark::Apart(apart) => (words::of_rule(network, apart), None),
+    };
+    iter::once(before)
+        .map(sentence)
         .chain(parts)
-        .chain([sentence(words::so())])
+        .chain(after.map(sentence))
         .collect()
 }
 

@@ -6,6 +6,7 @@ use super::layout::{page, Page};
 use super::links::{Ways, Weight};
 use super::shapes::{Badge, Frame, Label, Point, Spot, Stroke, OUTLINE};
 use super::*;
+use crate::apart::apart;
 use xml::Element;
 
 /// Names that are long, wide, empty, or hold what XML cannot.
@@ -44,7 +45,7 @@ fn two_regions() -> (Network, Split) {
     (network, Split { f, l, c, r })
 }
 
-/// For n offices: no links, all links, one way between each two, and a mixture; f from 0 to 2.
+/// For n offices: no links, all links, one way between each two, and mixtures; f from 0 to 2.
 fn networks(n: u8) -> Vec<Network> {
     let of = |f| {
         [
@@ -54,20 +55,22 @@ fn networks(n: u8) -> Vec<Network> {
             network(n, f, |u, v| (3 * u + 5 * v) % 4 != 0),
             network(n, f, |_, v| v == 0),
             network(n, f, |u, v| (u + v) % 3 == 0 || u > v),
+            network(n, f, |u, v| u + v != n),
         ]
     };
     (0..=2).flat_map(of).collect()
 }
 
-/// No split, and one of each shape that fits: F and C empty or not.
-fn splits(network: &Network) -> Vec<Option<Split>> {
+/// Nothing, a split of each shape that fits, F and C empty or not, and the offices without which the
+/// rest falls apart.
+fn marks(network: &Network) -> Vec<Option<Mark>> {
     let all = network.servers();
     let most = usize::from(network.f);
     let of = |[f, c]: [&[u8]; 2]| {
         let [f, l, c] = [set(f), set(&[1]), set(c)];
         let r = all - f - l - c;
         let fits = (f | l | c).is_within(all) && !r.is_empty() && f.len() <= most;
-        fits.then_some(Split { f, l, c, r })
+        fits.then_some(Mark::Split(Split { f, l, c, r }))
     };
     let shapes: [[&[u8]; 2]; 6] = [
         [&[], &[]],
@@ -78,29 +81,30 @@ fn splits(network: &Network) -> Vec<Option<Split>> {
         [&[0, 2], &[3, 4, 5]],
     ];
     let bad = shapes.into_iter().filter_map(of).map(Some);
-    bad.chain([None]).collect()
+    let apart = apart(network).map(Mark::Apart);
+    bad.chain(apart.map(Some)).chain([None]).collect()
 }
 
-/// Calls `check` with every network and split above, without names and with awkward ones.
-fn each_picture(check: impl Fn(&Network, &Names, Option<Split>)) {
+/// Calls `check` with every network and mark above, without names and with awkward ones.
+fn each_picture(check: impl Fn(&Network, &Names, Option<Mark>)) {
     let short = named(&["Oslo", "Bergen"]);
     for names in [Names::default(), short, named(&AWKWARD)] {
         for network in (2..=8).flat_map(networks) {
-            for split in splits(&network) {
-                check(&network, &names, split);
+            for mark in marks(&network) {
+                check(&network, &names, mark);
             }
         }
     }
 }
 
-fn placed(network: &Network, names: &Names, split: Option<Split>) -> Page {
-    page(&content(network, names, split))
+fn placed(network: &Network, names: &Names, mark: Option<Mark>) -> Page {
+    page(&content(network, names, mark))
 }
 
 #[test]
 fn every_file_is_well_formed_and_stands_alone() {
-    each_picture(|network, names, split| {
-        let file = svg(network, names, split);
+    each_picture(|network, names, mark| {
+        let file = svg(network, names, mark);
         let root = xml::read(&file);
         let [title, desc] = [&root.children[0], &root.children[1]];
         assert_eq!((root.name.as_str(), title.name.as_str()), ("svg", "title"));
@@ -125,8 +129,8 @@ fn the_smallest_file_reads_well() {
 #[test]
 fn lengths_have_one_decimal() {
     let lengths = ["x", "y", "x1", "y1", "x2", "y2", "cx", "cy", "r"];
-    each_picture(|network, names, split| {
-        let root = xml::read(&svg(network, names, split));
+    each_picture(|network, names, mark| {
+        let root = xml::read(&svg(network, names, mark));
         let attributes = root
             .all()
             .into_iter()
@@ -152,8 +156,8 @@ fn pairs(network: &Network) -> (usize, usize) {
 
 #[test]
 fn every_link_is_drawn_once() {
-    each_picture(|network, names, split| {
-        let root = xml::read(&svg(network, names, split));
+    each_picture(|network, names, mark| {
+        let root = xml::read(&svg(network, names, mark));
         let links = root.of_class("links");
         let (two_way, one_way) = pairs(network);
         assert_eq!(links.named("line").len(), two_way + one_way);
@@ -193,9 +197,9 @@ fn along(stroke: &Stroke) -> Vec<Point> {
 
 #[test]
 fn links_lead_from_edge_to_edge_and_cross_no_circle() {
-    each_picture(|network, names, split| {
-        let page = placed(network, names, split);
-        let links = links::of(network, split);
+    each_picture(|network, names, mark| {
+        let page = placed(network, names, mark);
+        let links = links::of(network, mark);
         assert_eq!(links.len(), page.links.len());
         for (link, stroke) in links.iter().zip(&page.links) {
             let [from, to] = [link.from, link.to].map(|i| &page.offices[usize::from(i)]);
@@ -224,8 +228,8 @@ fn are_apart(one: &[Point; 3], other: &[Point; 3]) -> bool {
 
 #[test]
 fn arrow_heads_are_clear_of_each_other_and_of_circles() {
-    each_picture(|network, names, split| {
-        let page = placed(network, names, split);
+    each_picture(|network, names, mark| {
+        let page = placed(network, names, mark);
         let heads: Vec<[Point; 3]> = page.links.iter().filter_map(|link| link.head).collect();
         for (i, head) in heads.iter().enumerate() {
             assert!(heads[..i].iter().all(|other| are_apart(head, other)));
@@ -256,8 +260,8 @@ fn written(page: &Page) -> Vec<Frame> {
 
 #[test]
 fn everything_is_on_the_canvas() {
-    each_picture(|network, names, split| {
-        let page = placed(network, names, split);
+    each_picture(|network, names, mark| {
+        let page = placed(network, names, mark);
         let circles = page.offices.iter().map(Spot::circle);
         for frame in written(&page).into_iter().chain(circles) {
             assert!(frame.left >= 0.0 && frame.right <= page.width, "{frame:?}");
@@ -277,8 +281,8 @@ fn overlap(one: &Frame, other: &Frame) -> bool {
 
 #[test]
 fn nothing_lies_on_a_text() {
-    each_picture(|network, names, split| {
-        let page = placed(network, names, split);
+    each_picture(|network, names, mark| {
+        let page = placed(network, names, mark);
         let written = written(&page);
         for (i, frame) in written.iter().enumerate() {
             let is_clear = |other: &Frame| !overlap(frame, other);
@@ -317,9 +321,9 @@ fn letters(element: &Element) -> String {
 
 #[test]
 fn each_office_has_the_letter_of_its_set() {
-    each_picture(|network, names, split| {
-        let root = xml::read(&svg(network, names, split));
-        let of = |office| split.and_then(|split| Part::of(office, &split));
+    each_picture(|network, names, mark| {
+        let root = xml::read(&svg(network, names, mark));
+        let of = |office| mark.and_then(|mark| Part::of(office, &mark));
         let expected: String = (0..network.n).filter_map(of).map(Part::letter).collect();
         assert_eq!(letters(root.of_class("offices")), expected);
         let has_office = |part: &Part| expected.contains(part.letter());
@@ -333,8 +337,8 @@ fn each_office_has_the_letter_of_its_set() {
 }
 
 /// The legend as the picture shows it, lines joined.
-fn legend_of(network: &Network, names: &Names, split: Option<Split>) -> Vec<String> {
-    let content = content(network, names, split);
+fn legend_of(network: &Network, names: &Names, mark: Option<Mark>) -> Vec<String> {
+    let content = content(network, names, mark);
     let rows = content.legend.into_iter();
     rows.map(|row| row.text.replace('\u{a0}', " ")).collect()
 }
@@ -354,7 +358,8 @@ fn a_bad_split_is_explained() {
         "So L could show open while R shows closed, and no plan can help.",
     ];
     let names = Names::new(vec![None, None, None, None, Some("New York".to_string())]);
-    assert_eq!(legend_of(&network, &names, Some(split)), expected);
+    let split = Some(Mark::Split(split));
+    assert_eq!(legend_of(&network, &names, split), expected);
 }
 
 #[test]
@@ -376,11 +381,43 @@ fn a_bad_split_with_failing_offices_is_explained() {
         "Leaving out F, office 2 hears none of the others, so nothing from outside can put it right.",
         "So L could show open while R shows closed, and no plan can help.",
     ];
-    let split = Split { f, l, c, r };
-    assert_eq!(
-        legend_of(&network, &Names::default(), Some(split)),
-        expected
-    );
+    let split = Some(Mark::Split(Split { f, l, c, r }));
+    assert_eq!(legend_of(&network, &Names::default(), split), expected);
+}
+
+#[test]
+fn offices_to_be_taken_away_are_explained() {
+    // All links but that between 0 and 4, and a row.
+    let nearly_all = network(5, 1, |u, v| u + v != 4 || u.min(v) > 0);
+    let names = Names::new(vec![None, None, None, None, Some("New York".to_string())]);
+    let mark = apart(&nearly_all).map(Mark::Apart);
+    let expected = [
+        words::TWO_WAY,
+        words::TAKEN,
+        "Two-way site: 3 offices must be taken away before the rest falls apart, and the older \
+         rule wants at least 3.",
+        "Taking away offices 1 2 3 leaves office 0 apart from office 4 (New York).",
+    ];
+    assert_eq!(legend_of(&nearly_all, &names, mark), expected);
+    let row = network(4, 0, |u, v| u.abs_diff(v) == 1);
+    let mark = apart(&row).map(Mark::Apart);
+    let expected = [
+        words::TWO_WAY,
+        words::TAKEN,
+        "Two-way site: 1 office must be taken away before the rest falls apart, and the older \
+         rule wants at least 1.",
+        "Taking away office 1 leaves office 0 apart from offices 2 3.",
+    ];
+    assert_eq!(legend_of(&row, &Names::default(), mark), expected);
+    let content = content(&row, &Names::default(), mark);
+    let expected = [
+        "Offices 0 1 2 3 in a ring.",
+        "Two-way links: 0 and 1, 1 and 2, 2 and 3.",
+        "The offices can agree, as long as none of them fails.",
+        expected[2],
+        "K: Taking away office 1 leaves office 0 apart from offices 2 3.",
+    ];
+    assert_eq!(content.description, expected);
 }
 
 /// What a link has to do with a bad split, from the incoming neighbours of its sides.
@@ -403,9 +440,20 @@ fn weight(network: &Network, split: &Split, link: &Link) -> Weight {
 
 #[test]
 fn links_are_weighed_by_what_the_sides_hear() {
-    each_picture(|network, _, split| {
-        for link in links::of(network, split) {
-            let expected = split.map_or(Weight::Plain, |split| weight(network, &split, &link));
+    each_picture(|network, _, mark| {
+        for link in links::of(network, mark) {
+            let expected = match mark {
+                Some(Mark::Split(split)) => weight(network, &split, &link),
+                // A link within a part that is left stays, and none leads from one to the other.
+                Some(Mark::Apart(Apart { one, other, .. })) => {
+                    let ends = set(&[link.from, link.to]);
+                    match ends.is_within(one) || ends.is_within(other) {
+                        true => Weight::Plain,
+                        false => Weight::Taken,
+                    }
+                }
+                None => Weight::Plain,
+            };
             assert_eq!(link.weight, expected, "{link:?}");
         }
     });

@@ -2,9 +2,12 @@
 
 use super::legend::{Entry, Symbol};
 use super::links::{Link, Ways};
-use super::Part;
+use super::{Mark, Part};
+use crate::apart::Apart;
 use crate::names::Names;
-use crate::words::{at_most, can_agree, capital, hearing, sentence, SO};
+use crate::words::{
+    at_most, can_agree, capital, counted, hearing, sentence, taking_away, wanted, SO,
+};
 use agreement::{Network, Split};
 
 pub const NO_LINKS: &str = "There are no links between the offices.";
@@ -12,6 +15,7 @@ pub const TWO_WAY: &str = "Two-way link: each of the two offices hears the other
 pub const ONE_WAY: &str = "One-way link: the office at the arrow head hears the other.";
 pub const THICK: &str = "Thick link: by it L or R hears an office outside.";
 pub const DASHED: &str = "Dashed link: left out with F.";
+pub const TAKEN: &str = "Dashed link: taken away with K.";
 
 pub fn title(network: &Network) -> String {
     format!("{} offices, {}", network.n, at_most(network.f))
@@ -36,19 +40,30 @@ pub fn so() -> String {
     sentence(SO)
 }
 
-/// What a set of a bad split has to do with it.
-pub fn of_part(part: Part, network: &Network, names: &Names, split: &Split) -> String {
-    let members = part.members(split);
+/// How many offices of a two-way site leave the rest apart, and how many the older rule wants.
+pub fn of_rule(network: &Network, apart: &Apart) -> String {
+    let (_, to_take) = wanted(network.f);
+    let least = counted(apart.taken.len(), "office");
+    format!(
+        "Two-way site: {least} must be taken away before the rest falls apart, and the older rule \
+         wants at least {to_take}."
+    )
+}
+
+/// What a set has to do with what is marked.
+pub fn of_part(part: Part, network: &Network, names: &Names, mark: &Mark) -> String {
+    let members = part.members(mark);
     let offices = capital(&names.offices(members));
     let are = if members.len() == 1 { "is" } else { "are" };
-    match part {
-        Part::F => format!("{offices} may fail, and {are} left out."),
-        Part::C => format!("{offices} {are} on neither side."),
-        Part::L | Part::R => sentence(&hearing(members, network, names, split)),
+    match (part, mark) {
+        (Part::F, _) => format!("{offices} may fail, and {are} left out."),
+        (Part::C, _) => format!("{offices} {are} on neither side."),
+        (_, Mark::Split(split)) => sentence(&hearing(members, network, names, split)),
+        (_, Mark::Apart(apart)) => sentence(&taking_away(apart, names)),
     }
 }
 
-/// The whole picture in sentences; `why` are the legend's rows on a bad split.
+/// The whole picture in sentences; `why` are the legend's rows on what is marked.
 pub fn description(
     network: &Network,
     names: &Names,
