@@ -1,6 +1,6 @@
 /*
  * The agreement library for x86-64 Linux (System V ABI): card reader, card printed back, split
- * test, plan check, run.
+ * test, quick test for two-way sites, plan check, run.
  *
  * The library is written in Rattle and proved: every function below meets the contract that is
  * written above it, for all arguments. It allocates nothing, keeps no state and calls nothing, so
@@ -45,7 +45,8 @@
  *   12      call: inputs not n bytes of 0 or 1
  *   13      call: faulty set over f servers, or a server not in V
  *   14      call: lent buffer under n bytes; to print a card: shorter than the card to be written
- *   The card's refusal comes before the plan's, and that before the call's 12, 13, 14.
+ *   15      call: quick test: some link has no return
+ *   The card's refusal comes before the plan's, and that before the call's 12, 13, 14, 15.
  */
 #ifndef AGREEMENT_H
 #define AGREEMENT_H
@@ -59,8 +60,8 @@ extern "C" {
 
 /* The version of this header. */
 #define AGREEMENT_VERSION_MAJOR 0
-#define AGREEMENT_VERSION_MINOR 3
-#define AGREEMENT_VERSION_PATCH 1
+#define AGREEMENT_VERSION_MINOR 4
+#define AGREEMENT_VERSION_PATCH 0
 #define AGREEMENT_VERSION \
     (UINT64_C(1000000) * AGREEMENT_VERSION_MAJOR + UINT64_C(1000) * AGREEMENT_VERSION_MINOR + \
      AGREEMENT_VERSION_PATCH)
@@ -91,7 +92,8 @@ enum {
     AGREEMENT_BAD_REPORT = 11,    /* its k or its N */
     AGREEMENT_BAD_INPUTS = 12,
     AGREEMENT_BAD_FAULTY_SET = 13,
-    AGREEMENT_SHORT_BUFFER = 14   /* `lent` */
+    AGREEMENT_SHORT_BUFFER = 14,  /* `lent` */
+    AGREEMENT_ONE_WAY = 15        /* a link without a return */
 };
 
 /* The largest n: agreement_run never refuses 14 for a buffer of so many bytes. */
@@ -145,6 +147,18 @@ void agreement_print_card(const uint8_t *card, size_t card_length, uint8_t *lent
  * 2, AGREEMENT_CARD, number, place, 0.
  */
 void agreement_split_test(const uint8_t *card, size_t card_length, uint64_t answer[5]);
+
+/*
+ * The quick test for two-way sites, where each link has a return, by the older rule: n is at least
+ * 3f+1, and at least 2f+1 servers must be taken away before the rest falls apart, that is, into two
+ * parts that are not empty, with no link between them.
+ * answer: 0, 1 if the rule holds and 0 if not, n, least. `least` is the least number of servers that
+ * must be taken away, 0 where the network is apart as it is; n-1 where no number is enough, as every
+ * two servers are linked. The rule holds exactly if the split test answers 0, 0, 0, 0, 0.
+ * Or answer: 2, what is at fault, number, place: the card's refusal, or 15 where some link has no
+ * return.
+ */
+void agreement_quick_test(const uint8_t *card, size_t card_length, uint64_t answer[4]);
 
 /*
  * The plan check: does the plan meet the route rules for the card's network?

@@ -1,5 +1,6 @@
 -- Returns      links that all have a return
 -- Parts        the parts by numbers against parts into arbitrary sets, and the least number
+-- Linked       networks in which every two servers are linked
 -- Around       the neighbours of a part are the fewest servers that cut it off
 -- Scanned      the scan over the parts
 -- Ruled        the rule's answer, as the code puts it together
@@ -8,6 +9,7 @@
 -- Main         what a user relies on
 pub mod Returns
 pub mod Parts
+mod Linked
 mod Around
 mod Scanned
 mod Ruled

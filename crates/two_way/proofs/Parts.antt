@@ -6,6 +6,7 @@
 --     separate-parts    sets that separate have numbers that pass the test
 --     separable-..      so some k servers separate by numbers exactly if some do by sets
 --     few-separate      a set that separates leaves two servers at least
+--     connectivity-is   a number that is enough, when nothing less is, is the one that is searched for
 --     least-away        the number that is searched for is the least one
 -- Assumes nothing.
 use mathlib.Core.Path.{_≡_, refl, sym, ap, _∙_}
@@ -169,6 +170,15 @@ few-separate n links K L R w =
     let r = w .right in
     let d = count-some n L (l .0) (l .1) (l .2) in
     let e = count-some n R (r .0) (r .1) (r .2) in
+    omega arith
+
+-- the number that is searched for: enough, and nothing less is
+pub connectivity-is : (n : ℕ) (links : Links) (k : ℕ) → k ≤ n - 1 → (k ≡ n - 1) ⊎ (separable n links k ≡ true) → ((j : ℕ) → separable n links j ≡ true → k ≤ j) → k ≡ connectivity n links
+unfolding connectivity
+connectivity-is n links k most met least =
+    let a = firstIn-most (n - 1) 0 (separable n links) in
+    let c : connectivity n links ≤ k = ⊎-elim (λ h. omega arith) (λ h. ⊎-elim (λ g. g) (λ g. omega arith) (firstIn-least (n - 1) 0 (separable n links) k (omega arith) h)) met in
+    let b : k ≤ connectivity n links = ⊎-elim (λ h. omega arith) (λ h. least (connectivity n links) h) (firstIn-found (n - 1) 0 (separable n links)) in
     omega arith
 
 module _ (n : ℕ) (links : Links) (few : n ≤ 8) where

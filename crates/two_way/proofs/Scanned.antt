@@ -15,12 +15,11 @@ use borrow.Author.Tests.{ltb-true, ltb-false}
 use Rattle.facts.proofs.Bools.{cases, clash}
 use Rattle.sets.specs.Sets.{has, full, size}
 use Rattle.sets.proofs.Members.{pow-double}
-use Rattle.sets.proofs.LowestMember.{firstIn-found, firstIn-least, firstIn-most}
 use Rattle.network.specs.Links.{Links, linkedIn}
 use Rattle.network.specs.Weak.{Tables}
 use Rattle.two_way.specs.Separation.{others, parts, separable, connectivity}
 use Rattle.two_way.specs.Scan.{neighbours, cutOff}
-use Rattle.two_way.proofs.Parts.{parts-separable, separable-found}
+use Rattle.two_way.proofs.Parts.{parts-separable, separable-found, connectivity-is}
 use Rattle.two_way.proofs.Around.{around-small, around-parts, Low, low-part}
 
 -- each link has a return
@@ -30,15 +29,6 @@ Back links = (u v : ℕ) → linkedIn links u v ≡ linkedIn links v u
 pub record Searched (n : ℕ) (links : Links) (least part : ℕ) : Type 0 where
   pub met : (least ≡ n - 1) ⊎ (separable n links least ≡ true)
   pub passed : (L : ℕ) → 0 < L → L < part → least ≤ cutOff n links (n - 1) L
-
--- the number that is searched for: enough, and nothing less is
-connectivity-is : (n : ℕ) (links : Links) (k : ℕ) → k ≤ n - 1 → (k ≡ n - 1) ⊎ (separable n links k ≡ true) → ((j : ℕ) → separable n links j ≡ true → k ≤ j) → k ≡ connectivity n links
-unfolding connectivity
-connectivity-is n links k most met least =
-    let a = firstIn-most (n - 1) 0 (separable n links) in
-    let c : connectivity n links ≤ k = ⊎-elim (λ h. omega arith) (λ h. ⊎-elim (λ g. g) (λ g. omega arith) (firstIn-least (n - 1) 0 (separable n links) k (omega arith) h)) met in
-    let b : k ≤ connectivity n links = ⊎-elim (λ h. omega arith) (λ h. least (connectivity n links) h) (firstIn-found (n - 1) 0 (separable n links)) in
-    omega arith
 
 module _ (n : ℕ) (links : Links) where
   pub searched-starts : Searched n links (n - 1) 1

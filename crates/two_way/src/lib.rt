@@ -17,7 +17,7 @@ ghost use Rattle.network.specs.Sources.{SourcesOf};
 ghost use Rattle.network.specs.Weak.{Tables};
 ghost use Rattle.network.specs.Proper.{Proper};
 ghost use Rattle.two_way.specs.Separation.{oneWay, connectivity};
-ghost use Rattle.two_way.specs.Scan.{unlike, cutOff};
+ghost use Rattle.two_way.specs.Scan.{unlike, everyLinked, cutOff};
 ghost use Rattle.two_way.specs.Quick.{olderRule, quickOf, quickTest};
 ghost use Rattle.two_way.specs.Answers.{quickAnswerOf};
 ghost use Rattle.network.specs.Card.{network};
@@ -39,6 +39,22 @@ fn unlike(rows: [u8; 8], sources: [u8; 8]) -> bool
         }
     }
     false
+}
+
+// Every two servers are linked: with itself, each has all servers for its sources.
+fn every_linked(n: u8, rows: [u8; 8]) -> bool
+    requires { ⌜ n ≤ 8 ⌝ }
+    ensures { λ r. ⌜ r ≡ everyLinked n rows ⌝ }
+{
+    let servers = sets::full(n);
+    for v in 0..n {
+        let itself = sets::single(v);
+        let all = sets::union(rows[v as usize], itself);
+        if all != servers {
+            return false;
+        }
+    }
+    true
 }
 
 // How many servers cut the part off from the others: its neighbours; `most` if these leave no others.
@@ -68,12 +84,15 @@ fn least_taken(n: u8, rows: [u8; 8]) -> u8
     requires { ⌜ 2 ≤ n × n ≤ 8 ⌝ }
     ensures { λ r. ⌜ ((f : ℕ) (links : Links) → Proper n f links → oneWay n links ≡ false → ((v : ℕ) → v < 8 → SourcesOf links v 8 (getD rows v 0)) → r ≡ connectivity n links) ⌝ }
 {
+    let most = n - 1;
+    if every_linked(n, rows) {
+        return most;
+    }
     let lower = sources::lower_table(rows);
     let upper = sources::upper_table(rows);
     let sizes = sets::sizes();
     let servers = sets::full(n);
     let half = servers / 2 + 1;
-    let most = n - 1;
     let mut least = most;
     for part in 1..half {
         let taken = cut_off(&sizes, &lower, &upper, servers, most, part);
