@@ -8,9 +8,7 @@ use mathlib.Core.Bool.{Bool, true, false, cond}
 use mathlib.Core.List.{List}
 use Prim.Native.Nat.{ℕ, _+_, _-_, _*_, _≤_}
 use native.Mathlib.Omega.{arith}
-use lib.Dec.{leb}
-use borrow.Author.Tests.{leb-true, le-leb}
-use Rattle.facts.proofs.Bools.{cases, and-left, and-right}
+use Rattle.facts.proofs.Bools.{cases}
 use Rattle.refusal.specs.Refused.{Refused, call}
 use Rattle.network.specs.Links.{Links, linkedIn}
 use Rattle.network.specs.Card.{Network, network, refused, readCard}
@@ -20,36 +18,35 @@ use Rattle.network.proofs.Main.{card-proper}
 use Rattle.condition.specs.Condition.{Condition}
 use Rattle.condition.proofs.Main.{exact}
 use Rattle.two_way.specs.Separation.{oneWay, connectivity}
-use Rattle.two_way.specs.Quick.{Quick, ruled, turned, olderRule, quickOf, quickTest}
+use Rattle.two_way.specs.Quick.{ruled, serversWanted, awayWanted, olderRule, quickOf, quickTest}
 use Rattle.two_way.specs.Least.{LeastAway, Least, Agrees}
 use Rattle.two_way.proofs.Returns.{two-way}
 use Rattle.two_way.proofs.Parts.{least-away}
+use Rattle.two_way.proofs.Ruled.{rule-both, rule-servers, rule-away}
 use Rattle.two_way.proofs.Rule.{rule-condition, condition-wide, condition-apart}
 
 -- the rule's two numbers, and the condition
 module _ (n f : ℕ) (links : Links) (p : Proper n f links) (back : oneWay n links ≡ false) where
   rule-good : olderRule n f (connectivity n links) ≡ true → Condition n f (linkedIn links)
-  unfolding olderRule
+  unfolding serversWanted awayWanted
   rule-good e =
-      let a = leb-true (3 * f + 1) n (and-left (leb (3 * f + 1) n) (leb (2 * f + 1) (connectivity n links)) e) in
-      let b = leb-true (2 * f + 1) (connectivity n links) (and-right (leb (3 * f + 1) n) (leb (2 * f + 1) (connectivity n links)) e) in
+      let wide = rule-servers n f (connectivity n links) e in
+      let away = rule-away n f (connectivity n links) e in
       let l = least-away n links (p .most) in
-      rule-condition n f (linkedIn links) (two-way n f links p back) a (λ K L R w. let m = l .fewest K L R w in omega arith)
+      rule-condition n f (linkedIn links) (two-way n f links p back) (omega arith) (λ K L R w. let m = l .fewest K L R w in omega arith)
 
   good-rule : Condition n f (linkedIn links) → olderRule n f (connectivity n links) ≡ true
-  unfolding olderRule
+  unfolding serversWanted awayWanted
   good-rule c =
       let two = p .least in
       let wide = condition-wide n f (linkedIn links) c two in
       let l = least-away n links (p .most) in
-      let enough : 2 * f + 1 ≤ connectivity n links =
+      let away : 2 * f + 1 ≤ connectivity n links =
       ⊎-elim
       (λ (K, L, R, w, e). let m = condition-apart n f (linkedIn links) c K L R w in omega arith)
       (λ h. let e = h .1 in omega arith)
       (l .reached) in
-      let a = le-leb (3 * f + 1) n wide in
-      let b = le-leb (2 * f + 1) (connectivity n links) enough in
-      cc
+      rule-both n f (connectivity n links) (omega arith) (omega arith)
 
 -- what an answered card is: all its links have a return
 record Answered (s : List ℕ) (holds : Bool) (n least : ℕ) : Type 0 where

@@ -5,25 +5,38 @@
 use mathlib.Core.Path.{_≡_, sym, ap}
 use mathlib.Core.Bool.{Bool, true, false}
 use mathlib.Core.List.{List}
-use Prim.Native.Nat.{ℕ, _+_, _*_, _≤_, _<_}
+use Prim.Native.Nat.{ℕ, _≤_, _<_}
 use lib.Dec.{leb}
-use borrow.Author.Tests.{le-leb, lt-leb}
+use borrow.Author.Tests.{le-leb, lt-leb, leb-true}
+use Rattle.facts.proofs.Bools.{and-left, and-right, both}
 use Rattle.refusal.specs.Refused.{Refused, call}
 use Rattle.network.specs.Links.{Links}
 use Rattle.network.specs.Card.{network, readCard, head, headOf, linksAfter}
 use Rattle.network.specs.Card as Card
 use Rattle.network.proofs.Heads.{refused-of, network-is}
 use Rattle.two_way.specs.Separation.{oneWay, connectivity}
-use Rattle.two_way.specs.Quick.{ruled, turned, olderRule, quickOf, quickTest}
+use Rattle.two_way.specs.Quick.{ruled, turned, serversWanted, awayWanted, olderRule, quickOf, quickTest}
 
 module _ (n f least : ℕ) where
-  pub rule-short : n < 3 * f + 1 → false ≡ olderRule n f least
+  pub rule-short : n < serversWanted f → false ≡ olderRule n f least
   unfolding olderRule
-  rule-short h = let e = lt-leb (3 * f + 1) n h in cc
+  rule-short h = let e = lt-leb (serversWanted f) n h in cc
 
-  pub rule-enough : 3 * f + 1 ≤ n → leb (2 * f + 1) least ≡ olderRule n f least
+  pub rule-enough : serversWanted f ≤ n → leb (awayWanted f) least ≡ olderRule n f least
   unfolding olderRule
-  rule-enough h = let e = le-leb (3 * f + 1) n h in cc
+  rule-enough h = let e = le-leb (serversWanted f) n h in cc
+
+  pub rule-both : serversWanted f ≤ n → awayWanted f ≤ least → olderRule n f least ≡ true
+  unfolding olderRule
+  rule-both h k = both (leb (serversWanted f) n) (leb (awayWanted f) least) (le-leb (serversWanted f) n h) (le-leb (awayWanted f) least k)
+
+  pub rule-servers : olderRule n f least ≡ true → serversWanted f ≤ n
+  unfolding olderRule
+  rule-servers e = leb-true (serversWanted f) n (and-left (leb (serversWanted f) n) (leb (awayWanted f) least) e)
+
+  pub rule-away : olderRule n f least ≡ true → awayWanted f ≤ least
+  unfolding olderRule
+  rule-away e = leb-true (awayWanted f) least (and-right (leb (serversWanted f) n) (leb (awayWanted f) least) e)
 
 module _ (n f : ℕ) (links : Links) where
   pub quick-one-way : oneWay n links ≡ true → turned (call 15) ≡ quickOf (network n f links)

@@ -12,9 +12,16 @@ pub data Quick : Type 0 where
   ruled : (holds : Bool) (n least : ℕ) → Quick
   turned : Refused → Quick
 
+-- the two numbers that the rule asks for
+unfoldable pub serversWanted : ℕ → ℕ
+serversWanted f = 3 * f + 1
+
+unfoldable pub awayWanted : ℕ → ℕ
+awayWanted f = 2 * f + 1
+
 -- n is at least 3f + 1, and at least 2f + 1 servers must be taken away before the rest falls apart
 unfoldable pub olderRule : (n f least : ℕ) → Bool
-olderRule n f least = leb (3 * f + 1) n && leb (2 * f + 1) least
+olderRule n f least = leb (serversWanted f) n && leb (awayWanted f) least
 
 abbrev pub quickOf : Network → Quick
 quickOf (network n f links) =

@@ -1,6 +1,7 @@
 -- `two_way::older_rule` meets its contract. Assumes nothing.
-use borrow.Author.Needs.{needs}
 use native.Mathlib.Omega.{arith}
+use borrow.Author.Needs.{needs}
+use Rattle.two_way.specs.Quick.{serversWanted, awayWanted}
 use Rattle.two_way.proofs.Ruled.{rule-short, rule-enough}
 use Rattle.two_way.proofs.older_rule.Statement.{statement}
 use Rattle.two_way.proofs.older_rule.Tie as tie
@@ -14,6 +15,7 @@ add-wanted : tie.Need-add-wanted
 add-wanted c = search needs
 
 returns : tie.Need-returns
+unfolding serversWanted
 returns c = rule-short _ _ _ (omega arith)
 
 mul-needed : tie.Need-mul-needed
@@ -23,6 +25,7 @@ add-needed : tie.Need-add-needed
 add-needed c = search needs
 
 returns-2 : tie.Need-returns-2
+unfolding serversWanted awayWanted
 returns-2 c = rule-enough _ _ _ (omega arith)
 
 pub older-rule-spec : {M : Type 1} → statement M
