@@ -236,6 +236,28 @@ static void call_print(struct list card, const uint64_t network[12], uint64_t an
     free(lent.bytes);
 }
 
+/* The quick test of a card that was read, and split, with these answers: the reader's refusal, 15
+   exactly if some link has no return, and else yes exactly if the split test says none. */
+static void hold_quick(const uint64_t answer[4], const uint64_t network[12], const uint64_t split[5])
+{
+    const uint64_t refused[4] = {AGREEMENT_REFUSED, AGREEMENT_CALL, AGREEMENT_ONE_WAY, 0};
+    int one_way = 0;
+    for (unsigned u = 0; u < AGREEMENT_SERVERS; u++)
+        for (unsigned v = 0; v < AGREEMENT_SERVERS; v++)
+            one_way |= (network[4 + u] >> v & 1) && !(network[4 + v] >> u & 1);
+    if (network[0] != AGREEMENT_ANSWERED || one_way) {
+        if (memcmp(answer, network[0] == AGREEMENT_ANSWERED ? refused : network, sizeof refused) != 0)
+            fail("a card without a quick test has another refusal than it should");
+        return;
+    }
+    if (answer[0] != AGREEMENT_ANSWERED || answer[2] != network[1] || answer[3] >= answer[2])
+        fail("a two-way card's quick test has numbers that cannot be");
+    if (answer[1] != (answer[2] >= 3 * network[2] + 1 && answer[3] >= 2 * network[2] + 1))
+        fail("the older rule does not follow from its numbers");
+    if (answer[1] != (split[0] == AGREEMENT_ANSWERED))
+        fail("quick test and split test do not agree");
+}
+
 static void hold_run(const uint64_t answer[4], const uint8_t *lent, size_t size, const uint8_t *inputs,
                      uint64_t n, uint8_t faulty)
 {
@@ -262,14 +284,14 @@ static void hold_run(const uint64_t answer[4], const uint8_t *lent, size_t size,
         fail("the bit is no sound server's input");
 }
 
-/* How many runs were answered and how many cards printed. */
-static uint64_t answered, cards;
+/* How many runs were answered, how many cards printed and how many found two-way. */
+static uint64_t answered, cards, two_way;
 
 /* Calls every function on the files; says whether an answer was new. */
 static int call_all(struct files files)
 {
     const uint8_t *card = start_of(files.card), *plan = start_of(files.plan);
-    uint64_t network[12], printed[4], split[5], checked[4], ran[4];
+    uint64_t network[12], printed[4], split[5], quick[4], checked[4], ran[4];
     int fresh = 0;
     agreement_read_card(card, files.card.length, network);
     fresh |= is_new(network, 0);
@@ -279,6 +301,10 @@ static int call_all(struct files files)
     cards += printed[0] == AGREEMENT_ANSWERED;
     agreement_split_test(card, files.card.length, split);
     fresh |= is_new(split, 1);
+    agreement_quick_test(card, files.card.length, quick);
+    fresh |= is_new(quick, 5);
+    hold_quick(quick, network, split);
+    two_way += quick[0] == AGREEMENT_ANSWERED;
     agreement_check_plan(card, files.card.length, plan, files.plan.length, checked);
     fresh |= is_new(checked, 2);
 
@@ -338,8 +364,9 @@ int main(int argc, char **argv)
             free(files.run_in.bytes);
         }
     }
-    printf("campaign: %" PRIu64 " rounds, %" PRIu64 " cards printed, %" PRIu64 " runs answered, %zu kept\n", calls,
-           cards, answered, pooled);
+    printf("campaign: %" PRIu64 " rounds, %" PRIu64 " cards printed, %" PRIu64 " two-way, %" PRIu64
+           " runs answered, %zu kept\n",
+           calls, cards, two_way, answered, pooled);
     for (size_t i = 0; i < pooled; i++) {
         free(pool[i].card.bytes);
         free(pool[i].plan.bytes);

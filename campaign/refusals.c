@@ -98,6 +98,13 @@ static void split_test(const char *what, struct list card, const uint64_t expect
     hold("agreement_split_test", what, answer.words, expected, 5);
 }
 
+static void quick_test(const char *what, struct list card, const uint64_t expected[4])
+{
+    struct answer answer = blank();
+    agreement_quick_test(card.bytes, card.length, answer.words);
+    hold("agreement_quick_test", what, answer.words, expected, 4);
+}
+
 static void check_plan(const char *what, struct list card, struct list plan,
                        const uint64_t expected[4])
 {
@@ -141,6 +148,7 @@ static void card_refused(const char *what, struct list card, uint64_t number, ui
     print_card(what, card, CLEAN_LENT, expected, zeros_of(0));
     print_card(what, card, 0, expected, zeros_of(0));
     split_test(what, card, expected);
+    quick_test(what, card, expected);
     check_plan(what, card, zeros_of(0), expected);
     run(what, card, zeros_of(0), two_servers, expected, 0);
 }
@@ -329,6 +337,24 @@ static void prints(void)
     printed("a card without links", clean, clean);
 }
 
+/* Two-way networks, where the rule holds and where one of its numbers falls short, and a link
+   without a return. */
+static void quick_tests(void)
+{
+    const uint64_t one_way[4] = {AGREEMENT_REFUSED, AGREEMENT_CALL, AGREEMENT_ONE_WAY, 0};
+    const uint64_t row[4] = {AGREEMENT_ANSWERED, 1, 3, 1};
+    const uint64_t apart[4] = {AGREEMENT_ANSWERED, 0, 2, 0};
+    const uint64_t four[4] = {AGREEMENT_ANSWERED, 1, 4, 3};
+    const uint64_t three[4] = {AGREEMENT_ANSWERED, 0, 3, 2};
+    quick_test("three servers in a row",
+               LIST(HEAD, 3, 0, LINK, 0, 1, LINK, 1, 0, LINK, 1, 2, LINK, 2, 1, CARD_END), row);
+    quick_test("three servers in a row, one return missing",
+               LIST(HEAD, 3, 0, LINK, 0, 1, LINK, 1, 0, LINK, 1, 2, CARD_END), one_way);
+    quick_test("no links", LIST(HEAD, 2, 0, CARD_END), apart);
+    quick_test("four servers with all links", complete_card(4, 1), four);
+    quick_test("three servers with all links", complete_card(3, 1), three);
+}
+
 /* Two servers with a link from 0 to 1, the smallest site. */
 static void small_site(const char *what, struct list card, struct list plan)
 {
@@ -396,6 +422,7 @@ int main(void)
     plans(card);
     calls(card, plan);
     prints();
+    quick_tests();
     small_site("the small site", card, plan);
     twin_cables(plan);
     bad_split();

@@ -23,11 +23,13 @@
 /* Four times what a call may use, so that one that uses more is seen and not only stopped. */
 enum { SIZE = 4 * AGREEMENT_STACK, PAINT = 0xA5, FILE_MOST = 70000 };
 
-enum function { VERSION, READ_CARD, PRINT_CARD, SPLIT_TEST, CHECK_PLAN, RUN, FUNCTIONS };
+enum function {
+    VERSION, READ_CARD, PRINT_CARD, SPLIT_TEST, QUICK_TEST, CHECK_PLAN, RUN, FUNCTIONS
+};
 
 static const char *const names[FUNCTIONS] = {
     "agreement_version", "agreement_read_card", "agreement_print_card", "agreement_split_test",
-    "agreement_check_plan", "agreement_run"};
+    "agreement_quick_test", "agreement_check_plan", "agreement_run"};
 
 struct list {
     uint8_t bytes[FILE_MOST];
@@ -61,6 +63,9 @@ static void call(void)
         break;
     case SPLIT_TEST:
         agreement_split_test(card.bytes, card.length, answer);
+        break;
+    case QUICK_TEST:
+        agreement_quick_test(card.bytes, card.length, answer);
         break;
     case CHECK_PLAN:
         agreement_check_plan(card.bytes, card.length, plan.bytes, plan.length, answer);
@@ -129,6 +134,7 @@ static void call_all(void)
     call_apart(VERSION);
     call_apart(PRINT_CARD);
     call_apart(SPLIT_TEST);
+    call_apart(QUICK_TEST);
     call_apart(CHECK_PLAN);
     call_run();
 }

@@ -13,6 +13,8 @@ use Rattle.network.specs.Links.{noLinks, linkedIn, withLink}
 use Rattle.network.specs.Card.{headFits, linkFits, headAt, linkAt, endAt, stepAt, commands, readCard}
 use Rattle.network.specs.Split.{someBelow, incoming, held, rest, isSplit, isBad, badAt, firstFrom, badWithSides, badWithFaults, firstBad, splitTest}
 use Rattle.network.specs.Print.{linkBytes, cardBytes, linksAmong, ascending, printCard, cleanCard, fitting, printInto, printedIn}
+use Rattle.two_way.specs.Separation.{oneWay, linkTo, others, parts, separates, separable, connectivity}
+use Rattle.two_way.specs.Quick.{serversWanted, awayWanted, olderRule, quickTest}
 use Rattle.plan.specs.Members.{listFrom, members}
 use Rattle.plan.specs.Due.{isPart, due, fan, toOne, pairs, routesDue}
 use Rattle.route.specs.Route.{path, isFill, filled, serversOf, goesOn, isPath, isRoute}
@@ -57,8 +59,8 @@ passing-each (first ∷ rs) h r m =
 
 -- one `refl` a row, in the table's order: of a row that fails the checker prints the name
 computed : Passing table
-unfolding test sameList has single union meet minus within full count size firstIn lowest noLinks linkedIn withLink headFits linkFits headAt linkAt endAt stepAt commands readCard someBelow incoming held rest isSplit isBad badAt firstFrom badWithSides badWithFaults firstBad splitTest linkBytes cardBytes linksAmong ascending printCard cleanCard fitting printInto printedIn listFrom members isPart due fan toOne pairs routesDue path isFill filled serversOf goesOn isPath isRoute width isCut isDue routeAt checkGroup checkGroups allLinked isReport checkReports checkBlock checkBlocks checkEnd checkOn checkPlan routesAt reportsAt inwardDue amongDue outwardDue decodeBlock lengthOf decodeBlocks decodePlan reportCarriages carriagesOf hit message brought heard all common valuesFrom values step1 gather compare step5 step6 runBlock runBlocks areBits checkCall runOn runPlan decided written lentAfter
-computed = (refl, (refl, (refl, (refl, (refl, (refl, (refl, (refl, (refl, (refl, (refl, (refl, (refl, (refl, (refl, (refl, (refl, (refl, (refl, (refl, (refl, (refl, (refl, (refl, (refl, (refl, (refl, (refl, (refl, (refl, (refl, (refl, (refl, (refl, (refl, (refl, (refl, (refl, (refl, (refl, (refl, (refl, (refl, (refl, (refl, (refl, (refl, (refl, (refl, tt)))))))))))))))))))))))))))))))))))))))))))))))))
+unfolding test sameList has single union meet minus within full count size firstIn lowest noLinks linkedIn withLink headFits linkFits headAt linkAt endAt stepAt commands readCard someBelow incoming held rest isSplit isBad badAt firstFrom badWithSides badWithFaults firstBad splitTest oneWay linkTo others parts separates separable connectivity serversWanted awayWanted olderRule quickTest linkBytes cardBytes linksAmong ascending printCard cleanCard fitting printInto printedIn listFrom members isPart due fan toOne pairs routesDue path isFill filled serversOf goesOn isPath isRoute width isCut isDue routeAt checkGroup checkGroups allLinked isReport checkReports checkBlock checkBlocks checkEnd checkOn checkPlan routesAt reportsAt inwardDue amongDue outwardDue decodeBlock lengthOf decodeBlocks decodePlan reportCarriages carriagesOf hit message brought heard all common valuesFrom values step1 gather compare step5 step6 runBlock runBlocks areBits checkCall runOn runPlan decided written lentAfter
+computed = (refl, (refl, (refl, (refl, (refl, (refl, (refl, (refl, (refl, (refl, (refl, (refl, (refl, (refl, (refl, (refl, (refl, (refl, (refl, (refl, (refl, (refl, (refl, (refl, (refl, (refl, (refl, (refl, (refl, (refl, (refl, (refl, (refl, (refl, (refl, (refl, (refl, (refl, (refl, (refl, (refl, (refl, (refl, (refl, (refl, (refl, (refl, (refl, (refl, (refl, (refl, (refl, (refl, (refl, (refl, (refl, tt))))))))))))))))))))))))))))))))))))))))))))))))))))))))
 
 pub table-holds : (r : Row) → List·Memᴰ r table → Holds r
 table-holds r m = passing-each table computed r m

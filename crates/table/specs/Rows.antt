@@ -2,6 +2,7 @@
 --     Holds row  <-> the definitions give those values
 --     KeepsAlone     P10 for every S of one server
 use mathlib.Core.Path.{_≡_}
+use mathlib.Core.Bool.{cond}
 use mathlib.Core.List.{List, [], _∷_, _++_, map, List·Memᴰ}
 use Prim.Native.Nat.{ℕ, _<_}
 use Prim.Native.String.{String}
@@ -12,6 +13,8 @@ use Rattle.network.specs.Links.{Links}
 use Rattle.network.specs.Card.{network, Head, head, turned, headOf, readCard}
 use Rattle.network.specs.Split.{Split, good, bad, unread, splitTest}
 use Rattle.network.specs.Print.{Print, wrote, unwritten, printInto, printedIn}
+use Rattle.two_way.specs.Quick.{Quick, ruled, quickTest}
+use Rattle.two_way.specs.Quick as Quick
 use Rattle.plan.specs.Check
 use Rattle.rules.specs.Blocks.{Carriage, Block, carriageOf, decodePlan}
 use Rattle.rules.specs.Theorems.{Accepted}
@@ -40,6 +43,11 @@ splitValues good = 1 ∷ []
 splitValues (bad f l c r) = 2 ∷ f ∷ l ∷ c ∷ r ∷ []
 splitValues (unread r) = 0 ∷ refusedValues r
 
+-- 1, 1 for yes or 0 for no, n and the least number; or 0 and the refusal
+abbrev pub quickValues : Quick → List ℕ
+quickValues (ruled holds n least) = 1 ∷ cond holds 1 0 ∷ n ∷ least ∷ []
+quickValues (Quick.turned r) = 0 ∷ refusedValues r
+
 -- 1 and the blocks and carriages; or 0 and the refusal
 abbrev pub totalsValues : Check.Totals → List ℕ
 totalsValues (Check.totals blocks carriages) = 1 ∷ blocks ∷ carriages ∷ []
@@ -50,6 +58,7 @@ pub data Call : Type 0 where
   reads : (card : List ℕ) → Call
   prints : (card lent : List ℕ) → Call
   splits : (card : List ℕ) → Call
+  quicks : (card : List ℕ) → Call
   checks : (card plan : List ℕ) → Call
   runs : (card plan inputs : List ℕ) → (faulty : ℕ) → (table lent : List ℕ) → Call
   gathers : (faulty : ℕ) → (table : List ℕ) → (carriages : List Carriage) → (receivers : ℕ) → (t : List ℕ) → Call
@@ -60,6 +69,7 @@ abbrev pub given : Call → List ℕ
 given (reads s) = headValues (headOf (readCard s))
 given (prints s lent) = printValues (printInto s lent) ++ printedIn s lent
 given (splits s) = splitValues (splitTest s)
+given (quicks s) = quickValues (quickTest s)
 given (checks s p) = totalsValues (Check.checkPlan s p)
 given (runs s p inputs faulty table lent) = totalsValues (runPlan s p inputs faulty lent) ++ lentAfter s p inputs faulty table lent
 given (gathers faulty table carriages receivers t) = gather faulty table 0 carriages receivers t
@@ -95,6 +105,16 @@ abbrev pub P4-card : List ℕ
 P4-card =
     0x01 ∷ 0x04 ∷ 0x01
     ∷ (linksFrom 0 (1 ∷ 2 ∷ 3 ∷ []) ++ linksFrom 1 (0 ∷ 2 ∷ 3 ∷ []) ++ linksFrom 2 (0 ∷ 1 ∷ 3 ∷ []) ++ linksFrom 3 (0 ∷ 1 ∷ 2 ∷ []) ++ 0x03 ∷ [])
+
+-- a ring of four servers with links both ways, f 0
+abbrev pub ring-card : List ℕ
+ring-card =
+    0x01 ∷ 0x04 ∷ 0x00 ∷ (linksFrom 0 (1 ∷ 3 ∷ []) ++ linksFrom 1 (0 ∷ 2 ∷ []) ++ linksFrom 2 (1 ∷ 3 ∷ []) ++ linksFrom 3 (0 ∷ 2 ∷ []) ++ 0x03 ∷ [])
+
+-- the same without the link from 3 to 0
+abbrev pub open-ring-card : List ℕ
+open-ring-card =
+    0x01 ∷ 0x04 ∷ 0x00 ∷ (linksFrom 0 (1 ∷ 3 ∷ []) ++ linksFrom 1 (0 ∷ 2 ∷ []) ++ linksFrom 2 (1 ∷ 3 ∷ []) ++ linksFrom 3 (2 ∷ []) ++ 0x03 ∷ [])
 
 -- two cables for each link: of P1, of P3 turn by turn, of P4 once all single ones are given
 abbrev pub P1-twins : List ℕ
@@ -177,6 +197,13 @@ table =
     ∷ row "P2 has the bad split F 0, L 1, C 0, R 2" (splits P2-card) (2 ∷ 0 ∷ 1 ∷ 0 ∷ 2 ∷ [])
     ∷ row "P3 has the bad split F 1, L 2, C 0, R 4" (splits P3-card) (2 ∷ 1 ∷ 2 ∷ 0 ∷ 4 ∷ [])
     ∷ row "P4 has no bad split" (splits P4-card) (1 ∷ [])
+    ∷ row "P2 is apart as it is: the older rule fails, with 0" (quicks P2-card) (1 ∷ 0 ∷ 2 ∷ 0 ∷ [])
+    ∷ row "P3 has too few servers for the older rule" (quicks P3-card) (1 ∷ 0 ∷ 3 ∷ 2 ∷ [])
+    ∷ row "P4 has all links: the older rule holds, with n − 1" (quicks P4-card) (1 ∷ 1 ∷ 4 ∷ 3 ∷ [])
+    ∷ row "P4 with every link given twice is answered alike" (quicks P4-twins) (1 ∷ 1 ∷ 4 ∷ 3 ∷ [])
+    ∷ row "two servers must be taken away from a ring of four" (quicks ring-card) (1 ∷ 1 ∷ 4 ∷ 2 ∷ [])
+    ∷ row "a ring with a return missing is 15" (quicks open-ring-card) (0 ∷ 2 ∷ 15 ∷ [])
+    ∷ row "a card's refusal comes before 15" (quicks (0x01 ∷ 0x02 ∷ 0x00 ∷ 0x02 ∷ 0x00 ∷ 0x01 ∷ 0x02 ∷ 0x00 ∷ 0x02 ∷ 0x03 ∷ [])) (0 ∷ 0 ∷ 5 ∷ 6 ∷ [])
     ∷ row "a link given twice is one link" (reads P1-twins) (1 ∷ 2 ∷ 0 ∷ [])
     ∷ row "P3 with every link given twice has the bad split F 1, L 2, C 0, R 4" (splits P3-twins) (2 ∷ 1 ∷ 2 ∷ 0 ∷ 4 ∷ [])
     ∷ row "P4 with every link given twice has no bad split" (splits P4-twins) (1 ∷ [])

@@ -27,6 +27,7 @@ mod numbers;
 mod page;
 mod phrases;
 mod plans;
+mod quick;
 mod refusals;
 mod rehearsal;
 mod runs;
@@ -89,7 +90,7 @@ pub const BLOCKS: &[Check] = &[blocks::counted, blocks::ordered, blocks::least_s
 /// How long cards and plans can be.
 pub const LENGTHS: &[Check] = &[lengths::stated, clean::stated];
 /// The small cases.
-pub const CASES: &[Check] = &[cases::stated, cases::proved, sets::split];
+pub const CASES: &[Check] = &[cases::stated, cases::proved, sets::split, quick::stated];
 /// What a run does.
 pub const RUNS: &[Check] = &[steps::stated, runs::stated];
 /// The words of the header's answers.

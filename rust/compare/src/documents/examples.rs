@@ -3,6 +3,7 @@
 use super::grounds::{self, File};
 use super::numbers::number;
 use super::page::{Held, Page};
+use super::quick;
 use super::rehearsal::{ran, rehearsed, Files};
 use super::Documents;
 use std::collections::BTreeSet;
@@ -14,10 +15,19 @@ pub struct Example {
     /// The line of its first line of text, from 0.
     pub line: usize,
     pub files: Files,
-    /// The bytes lent, where it is not `rehearse` that runs.
-    lent: Option<usize>,
+    asked: Asked,
     /// Its lines of text.
     pub text: Vec<String>,
+}
+
+/// Who answers an example.
+#[derive(Debug, Default)]
+enum Asked {
+    #[default]
+    Rehearse,
+    /// The library's run, with so many bytes lent.
+    Run(usize),
+    QuickTest,
 }
 
 /// The examples within `lines`, in order.
@@ -30,19 +40,20 @@ fn example(page: &Page, lines: Range<usize>) -> Result<Example, String> {
     let mut example = Example {
         line: lines.start,
         files: Files::default(),
-        lent: None,
+        asked: Asked::default(),
         text: Vec::new(),
     };
     for line in lines {
         let text = page.lines[line].as_str();
         let (first, rest) = text.split_once(' ').unwrap_or((text, ""));
-        let Example { files, lent, .. } = &mut example;
+        let Example { files, asked, .. } = &mut example;
         let fault = |what: String| page.fault(line, what);
         match first {
             "card" => files.card = bytes(rest).map_err(fault)?,
             "plan" => files.plan = bytes(rest).map_err(fault)?,
             "run.in" => files.run_in = bytes(rest).map_err(fault)?,
-            "buffer" => *lent = Some(number(rest).ok_or_else(|| fault(no_count(rest)))?),
+            "buffer" => *asked = Asked::Run(number(rest).ok_or_else(|| fault(no_count(rest)))?),
+            "quick" if rest == "test" => *asked = Asked::QuickTest,
             _ => {
                 if example.text.is_empty() {
                     example.line = line;
@@ -88,9 +99,10 @@ fn no_count(word: &str) -> String {
 impl Example {
     /// What the library answers, as lines of text.
     fn answered(&self) -> Vec<String> {
-        let text = match self.lent {
-            Some(lent) => ran(&self.files, lent),
-            None => rehearsed(&self.files),
+        let text = match self.asked {
+            Asked::Rehearse => rehearsed(&self.files),
+            Asked::Run(lent) => ran(&self.files, lent),
+            Asked::QuickTest => quick::answered(&self.files.card),
         };
         text.lines().map(str::to_string).collect()
     }

@@ -72,6 +72,9 @@ fn same_headings(page: &Page) -> Held {
 /// The sentences that list the numbers of a file or of the call, or count them all.
 pub fn listed(documents: &Documents) -> Held {
     let call = row(File::Call.numbers());
+    let of_run = [CallGround::Inputs, CallGround::FaultSet, CallGround::Buffer];
+    let of_run = row(of_run.map(CallGround::number));
+    let [buffer, one_way] = [CallGround::Buffer, CallGround::OneWay].map(CallGround::number);
     let count = grounds::numbers().len();
     let of_card = Span::over("a card's refusal", &File::Card.numbers());
     let of_run_in = [CallGround::Inputs, CallGround::FaultSet].map(CallGround::number);
@@ -80,7 +83,9 @@ pub fn listed(documents: &Documents) -> Held {
     documents.formats.says_all(&[
         format!("meets none of {of_card},"),
         format!("none of {of_run_in}."),
-        format!("then {call} of the call."),
+        format!(
+            "then the call: {of_run} of a run, {buffer} of a card that is printed, {one_way} of the quick test."
+        ),
         format!("{} is no longer given:", row(grounds::no_longer_given())),
         format!("In the order of the table: {card} in a card; {plan} in a plan."),
     ])?;
@@ -89,8 +94,8 @@ pub fn listed(documents: &Documents) -> Held {
     ))?;
     documents.theorems.says_all(&[
         format!("number and place of each of the {count} refusals"),
-        format!("card, plan, then {call};"),
-        format!("and the run refused {call} and for its plan"),
+        format!("card, plan, then {of_run};"),
+        format!("and the run refused {of_run} and for its plan"),
     ])
 }
 

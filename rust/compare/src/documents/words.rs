@@ -15,10 +15,11 @@ use agreement::CallGround;
 /// What the wrapper declares, and calls.
 const DECLARED: &str = include_str!("../../../agreement/src/library.rs");
 
-const FUNCTIONS: [&str; 5] = [
+const FUNCTIONS: [&str; 6] = [
     "agreement_read_card",
     "agreement_print_card",
     "agreement_split_test",
+    "agreement_quick_test",
     "agreement_check_plan",
     "agreement_run",
 ];
@@ -48,7 +49,7 @@ fn lengths(page: &Page) -> Result<[usize; FUNCTIONS.len()], String> {
 
 pub fn stated(documents: &Documents) -> Held {
     let page = &documents.header;
-    let [reader, _, split, check, _] = lengths(page)?;
+    let [reader, _, split, _, check, _] = lengths(page)?;
     let of = |which: &str| name(page, which).map(|name| name.value);
     let answered = of("AGREEMENT_ANSWERED")?;
     let (bad_split, refused) = (of("AGREEMENT_BAD_SPLIT")?, of("AGREEMENT_REFUSED")?);
