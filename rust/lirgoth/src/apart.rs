@@ -52,19 +52,7 @@ fn reached(network: &Network, left: ServerSet) -> ServerSet {
 #[cfg(test)]
 mod tests {
     use super::*;
-    use generate::{card_of, complete_card, Rng};
-
-    /// All pairs of two of `n` offices.
-    fn pairs(n: u8) -> Vec<(u8, u8)> {
-        (0..n).flat_map(|v| (0..v).map(move |u| (u, v))).collect()
-    }
-
-    /// The card of a site with these links and their returns.
-    fn two_way_card(n: u8, f: u8, pairs: &[(u8, u8)]) -> Vec<u8> {
-        let both_ways = |&(u, v)| [(u, v), (v, u)];
-        let links: Vec<(u8, u8)> = pairs.iter().flat_map(both_ways).collect();
-        card_of(n, f, &links)
-    }
+    use generate::{all_pairs, complete_card, two_way_card_of, Rng};
 
     fn apart_on(card: &[u8]) -> Option<Apart> {
         apart(&agreement::read_card(card).expect("a sound card"))
@@ -80,19 +68,19 @@ mod tests {
         for n in 2..=8 {
             assert_eq!(bits(&complete_card(n, 1)), None, "all links, n {n}");
         }
-        let without_links = two_way_card(4, 1, &[]);
+        let without_links = two_way_card_of(4, 1, &[]);
         assert_eq!(bits(&without_links), Some([0, 0b1, 0b1110]));
-        let row = two_way_card(4, 1, &[(0, 1), (1, 2), (2, 3)]);
+        let row = two_way_card_of(4, 1, &[(0, 1), (1, 2), (2, 3)]);
         assert_eq!(bits(&row), Some([0b10, 0b1, 0b1100]));
-        let ring = two_way_card(5, 1, &[(0, 1), (1, 2), (2, 3), (3, 4), (4, 0)]);
+        let ring = two_way_card_of(5, 1, &[(0, 1), (1, 2), (2, 3), (3, 4), (4, 0)]);
         assert_eq!(bits(&ring), Some([0b101, 0b10, 0b1_1000]));
         // Without the middle of a star each of the others is alone.
-        let star = two_way_card(5, 1, &[(0, 2), (1, 2), (3, 2), (4, 2)]);
+        let star = two_way_card_of(5, 1, &[(0, 2), (1, 2), (3, 2), (4, 2)]);
         assert_eq!(bits(&star), Some([0b100, 0b1, 0b1_1010]));
         // All links but one: all others have to go.
-        let mut all_but_one = pairs(8);
+        let mut all_but_one = all_pairs(8);
         all_but_one.retain(|&pair| pair != (2, 5));
-        let all_but_one = two_way_card(8, 2, &all_but_one);
+        let all_but_one = two_way_card_of(8, 2, &all_but_one);
         assert_eq!(bits(&all_but_one), Some([0b1101_1011, 0b100, 0b10_0000]));
     }
 
@@ -102,19 +90,19 @@ mod tests {
         let mut rng = Rng::new(6);
         let mut sites = Vec::new();
         for n in 2..=5 {
-            for chosen in 0..1u32 << pairs(n).len() {
+            for chosen in 0..1u32 << all_pairs(n).len() {
                 let is_chosen = |place: &usize| chosen >> place & 1 == 1;
-                let places = (0..pairs(n).len()).filter(is_chosen);
-                let linked: Vec<(u8, u8)> = places.map(|place| pairs(n)[place]).collect();
-                sites.push(two_way_card(n, 1, &linked));
+                let places = (0..all_pairs(n).len()).filter(is_chosen);
+                let linked: Vec<(u8, u8)> = places.map(|place| all_pairs(n)[place]).collect();
+                sites.push(two_way_card_of(n, 1, &linked));
             }
         }
         for round in 0..240 {
             let n = [6, 7, 8][round % 3];
-            let mut linked = pairs(n);
+            let mut linked = all_pairs(n);
             let tenths = 3 + round / 3 % 8;
             linked.retain(|_| rng.below(10) < tenths);
-            sites.push(two_way_card(n, 1, &linked));
+            sites.push(two_way_card_of(n, 1, &linked));
         }
         sites
     }
