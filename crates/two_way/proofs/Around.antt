@@ -1,20 +1,21 @@
 -- Why one scan over the parts is enough: the neighbours of a part are the fewest servers that cut it off, and of two parts one does not have
 -- the last server.
 --     around-parts     the neighbours of a part cut it off, if they leave others
---     cut-no-more      and no more of them do than of any servers that cut it off
---     low-part         what separates leaves a part without the last server, which takes no more
+--     cut-no-more      whatever separates it from another part has no fewer servers
+--     low-part         whatever separates leaves a part without the last server, and no fewer servers than cut that one off
+--     cut-none, cut-some   what the code computes
 -- Assumes nothing.
 use mathlib.Core.Path.{_≡_, refl, sym, ap, _∙_}
 use mathlib.Core.Logic.{⊎-elim}
-use mathlib.Core.Bool.{Bool, true, false, cond, not, _&&_, _||_}
-use Prim.Native.Nat.{ℕ, zero, suc, _+_, _-_, _*_, _/_, _%_, _^_, _≤_, _<_}
+use mathlib.Core.Bool.{true, false, not, _&&_, _||_}
+use Prim.Native.Nat.{ℕ, zero, suc, _*_, _/_, _%_, _^_, _≤_, _<_}
 use native.Mathlib.Omega.{arith}
 use mathlib.Core.List.{List}
 use lib.Dec.{eqb, ltb}
 use lib.ListN.{getD}
 use borrow.Author.Tests.{eq-eqb, eqb-false, ne-eqb, ltb-true, ltb-false}
 use Rattle.facts.proofs.Bools.{cases, clash, is-false, and-left, and-right, not-true, or-cases}
-use Rattle.sets.specs.Sets.{Set, In, has, meet, minus, full, count, size, encode}
+use Rattle.sets.specs.Sets.{Set, In, has, meet, minus, full, size}
 use Rattle.sets.proofs.Members.{has-zero, has-suc, has-minus, has-beyond, pow-double, same-all, apart-meet, encode-has, encode-small}
 use Rattle.sets.proofs.Counts.{count-mono, size-count}
 use Rattle.network.specs.Links.{Links, linkedIn}
@@ -23,9 +24,8 @@ use Rattle.network.specs.Sources.{intoOf}
 use Rattle.network.specs.Weak.{Tables}
 use Rattle.network.proofs.Neighbours.{none-at, none-of}
 use Rattle.network.proofs.SourceRows.{halves-into}
-use Rattle.condition.specs.Condition.{Some}
 use Rattle.condition.proofs.Partitions.{of-member}
-use Rattle.two_way.specs.Separation.{linkTo, others, parts}
+use Rattle.two_way.specs.Separation.{others, parts}
 use Rattle.two_way.specs.Scan.{neighbours, cutOff}
 use Rattle.two_way.specs.Least.{Separates}
 use Rattle.two_way.proofs.Parts.{left-over, others-small, unlinked, parts-separate, Found}
@@ -144,13 +144,13 @@ module _ (m : ℕ) (links : Links) (fits : suc m ≤ 8) (k most : ℕ) (found : 
   low-part =
       let K = found .away in
       let L = found .part in
-      let w = parts-separate (suc m) links (found .away) (found .part) fits (found .part-small) (found .here) in
-      cases (has (found .part) m)
+      let R = others (suc m) K L in
+      let w = parts-separate (suc m) links K L fits (found .part-small) (found .here) in
+      cases (has L m)
       (λ e.
-      low-side (others (suc m) (found .away) (found .part)) (has (found .part)) (others-small (suc m) (found .away) (found .part))
-      (let a = left-over (suc m) (found .away) (found .part) m (omega arith) in cases (has (found .away) m) (λ x. cc) (λ x. cc))
-      (separates-flip (suc m) links (has (found .away)) (has (found .part)) (has (others (suc m) (found .away) (found .part))) w))
-      (λ e. low-side (found .part) (has (others (suc m) (found .away) (found .part))) (found .part-small) e w)
+      let clear : has R m ≡ false = let a = left-over (suc m) K L m (omega arith) in cases (has K m) (λ x. cc) (λ x. cc) in
+      low-side R (has L) (others-small (suc m) K L) clear (separates-flip (suc m) links (has K) (has L) (has R) w))
+      (λ e. low-side L (has R) (found .part-small) e w)
 
 -- what the code computes
 

@@ -4,22 +4,20 @@
 -- Assumes nothing.
 use mathlib.Core.Path.{_≡_, refl, sym, ap, _∙_}
 use mathlib.Core.Logic.{⊎-elim}
-use mathlib.Core.Bool.{Bool, true, false, cond}
+use mathlib.Core.Bool.{Bool, true, false}
 use mathlib.Core.List.{List}
-use Prim.Native.Nat.{ℕ, _+_, _-_, _*_, _≤_}
+use Prim.Native.Nat.{ℕ, _+_, _*_, _≤_}
 use native.Mathlib.Omega.{arith}
 use Rattle.facts.proofs.Bools.{cases}
-use Rattle.refusal.specs.Refused.{Refused, call}
 use Rattle.network.specs.Links.{Links, linkedIn}
 use Rattle.network.specs.Card.{Network, network, refused, readCard}
-use Rattle.network.specs.Split.{good, splitTest}
 use Rattle.network.specs.Proper.{Proper}
 use Rattle.network.proofs.Main.{card-proper}
 use Rattle.condition.specs.Condition.{Condition}
 use Rattle.condition.proofs.Main.{exact}
 use Rattle.two_way.specs.Separation.{oneWay, connectivity}
 use Rattle.two_way.specs.Quick.{ruled, serversWanted, awayWanted, olderRule, quickOf, quickTest}
-use Rattle.two_way.specs.Least.{LeastAway, Least, Agrees}
+use Rattle.two_way.specs.Least.{Least, Agrees}
 use Rattle.two_way.proofs.Returns.{two-way}
 use Rattle.two_way.proofs.Parts.{least-away}
 use Rattle.two_way.proofs.Ruled.{rule-both, rule-servers, rule-away}

@@ -16,16 +16,15 @@ use Prim.Native.Nat.{ℕ, _+_, _-_, _^_, _≤_, _<_}
 use native.Mathlib.Omega.{arith}
 use lib.Dec.{eqb, ltb}
 use borrow.Author.Tests.{eqb-true, eq-eqb, lt-ltb}
-use Rattle.facts.proofs.Bools.{cases, clash, is-false, and-left, and-right, not-true, bools}
-use Rattle.sets.specs.Sets.{Set, In, has, meet, minus, full, count, size, encode}
-use Rattle.sets.proofs.Members.{has-minus, has-full, has-below, minus-small, full-small, encode-has, encode-small}
+use Rattle.facts.proofs.Bools.{cases, clash, is-false, and-left, and-right, bools}
+use Rattle.sets.specs.Sets.{Set, has, meet, minus, full, count, size, encode}
+use Rattle.sets.proofs.Members.{has-minus, has-full, minus-small, full-small, encode-has, encode-small}
 use Rattle.sets.proofs.Counts.{count-same, count-apart, count-all, count-some, size-count}
 use Rattle.sets.proofs.LowestMember.{firstIn-found, firstIn-least, firstIn-most}
 use Rattle.network.specs.Links.{Links, linkedIn}
 use Rattle.network.specs.Split.{someBelow}
 use Rattle.network.proofs.Neighbours.{some-at, some-of, none-at, none-of}
-use Rattle.condition.specs.Condition.{Some}
-use Rattle.condition.proofs.Neighbours.{Agree, Apart}
+use Rattle.condition.proofs.Neighbours.{Agree}
 use Rattle.condition.proofs.Partitions.{member-of, of-member, meet-apart, apart-meet}
 use Rattle.two_way.specs.Separation.{linkTo, others, parts, separates, separable, connectivity}
 use Rattle.two_way.specs.Least.{Separates, Separable, LeastAway}
@@ -95,17 +94,17 @@ parts-separate n links K L few small e =
     let R = others n K L in
     let kl : eqb (meet K L) 0 ≡ true = search bools in
     let l : eqb L 0 ≡ false = search bools in
-    let r : eqb (others n K L) 0 ≡ false = search bools in
-    let b : (linkTo n links L (others n K L) || linkTo n links (others n K L) L) ≡ false = search bools in
+    let r : eqb R 0 ≡ false = search bools in
+    let none : (linkTo n links L R || linkTo n links R L) ≡ false = search bools in
     record {
       whole = each-somewhere n K L;
       KL = meet-apart n K L kl;
       KR = λ i k x y. clash (has K i) x (others-not-K n K L i k y);
       LR = λ i k x y. clash (has L i) x (others-not-L n K L i k y);
       left = member-of n L few small l;
-      right = member-of n (others n K L) few (others-small n K L) r;
-      noLinkLR = no-link n links L (others n K L) (or-false-left (linkTo n links L (others n K L)) (linkTo n links (others n K L) L) b);
-      noLinkRL = no-link n links (others n K L) L (or-false-right (linkTo n links L (others n K L)) (linkTo n links (others n K L) L) b);
+      right = member-of n R few (others-small n K L) r;
+      noLinkLR = no-link n links L R (or-false-left (linkTo n links L R) (linkTo n links R L) none);
+      noLinkRL = no-link n links R L (or-false-right (linkTo n links L R) (linkTo n links R L) none);
     }
 
 -- from sets to numbers

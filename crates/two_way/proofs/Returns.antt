@@ -19,7 +19,7 @@ use Rattle.network.specs.Split.{someBelow}
 use Rattle.network.specs.Sources.{SourcesOf}
 use Rattle.network.specs.Proper.{Proper}
 use Rattle.network.proofs.LinkRows.{rows-linked}
-use Rattle.network.proofs.Neighbours.{some-at, some-of, none-at, none-of}
+use Rattle.network.proofs.Neighbours.{some-at, some-of, none-of}
 use Rattle.two_way.specs.Separation.{oneWay}
 use Rattle.two_way.specs.Scan.{unlike}
 

@@ -3,14 +3,14 @@
 --     condition-wide    if the condition holds, n is at least 3f + 1
 --     condition-apart   and each K that separates has 2f + 1 servers or more
 -- Assumes nothing.
-use mathlib.Core.Path.{_≡_, refl, sym, _∙_}
+use mathlib.Core.Path.{_≡_, refl, _∙_}
 use mathlib.Core.Logic.{inl, inr, ⊎-elim}
-use mathlib.Core.Bool.{Bool, true, false, not, _&&_, _||_}
+use mathlib.Core.Bool.{true, false, not, _&&_, _||_}
 use Prim.Native.Nat.{ℕ, _+_, _-_, _*_, _≤_, _<_, min}
 use native.Mathlib.Omega.{arith}
 use lib.Dec.{ltb, leb}
-use borrow.Author.Tests.{ltb-true, ltb-false, lt-ltb, le-ltb, leb-true, leb-false}
-use Rattle.facts.proofs.Bools.{cases, clash, is-false, and-left, and-right, both, or-cases, not-true}
+use borrow.Author.Tests.{ltb-true, lt-ltb, le-ltb, leb-true, leb-false}
+use Rattle.facts.proofs.Bools.{cases, clash, and-left, and-right, both, or-cases, not-true}
 use Rattle.sets.specs.Sets.{Set, Edges, In, Out, count}
 use Rattle.sets.proofs.Counts.{count-mono, count-apart, count-all}
 use Rattle.network.specs.Split.{someBelow}

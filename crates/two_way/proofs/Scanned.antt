@@ -4,23 +4,23 @@
 --     Scan           the invariant: the same for all links that the tables are those of
 -- Assumes nothing.
 use mathlib.Core.Path.{_≡_, refl, sym, ap, _∙_}
-use mathlib.Core.Logic.{_⊎_, inl, inr, ⊎-elim}
-use mathlib.Core.Bool.{Bool, true, false, cond}
+use mathlib.Core.Logic.{_⊎_, inl, inr}
+use mathlib.Core.Bool.{true}
 use mathlib.Core.List.{List}
 use Prim.Native.Nat.{ℕ, zero, suc, _+_, _-_, _*_, _/_, _^_, _≤_, _<_, min}
 use native.Mathlib.Omega.{arith}
 use lib.Dec.{eqb, ltb}
 use lib.Pow.{pow-pos}
 use borrow.Author.Tests.{ltb-true, ltb-false}
-use Rattle.facts.proofs.Bools.{cases, clash}
-use Rattle.sets.specs.Sets.{has, full, size}
+use Rattle.facts.proofs.Bools.{cases}
+use Rattle.sets.specs.Sets.{full, size}
 use Rattle.sets.proofs.Members.{pow-double}
 use Rattle.network.specs.Links.{Links, linkedIn}
 use Rattle.network.specs.Weak.{Tables}
-use Rattle.two_way.specs.Separation.{others, parts, separable, connectivity}
+use Rattle.two_way.specs.Separation.{others, separable, connectivity}
 use Rattle.two_way.specs.Scan.{neighbours, cutOff}
 use Rattle.two_way.proofs.Parts.{parts-separable, separable-found, connectivity-is}
-use Rattle.two_way.proofs.Around.{around-small, around-parts, Low, low-part}
+use Rattle.two_way.proofs.Around.{around-small, around-parts, low-part}
 
 -- each link has a return
 abbrev pub Back : Links → Type 0

@@ -1,6 +1,5 @@
 -- `two_way::by_rule` meets its contract. Assumes nothing.
 use mathlib.Core.Path.{_≡_, sym, _∙_}
-use mathlib.Core.Bool.{Bool}
 use borrow.Author.Needs.{needs}
 use Rattle.two_way.specs.Separation.{oneWay}
 use Rattle.two_way.proofs.Returns.{unlike-is}

@@ -1,7 +1,7 @@
 -- `network::sources::sources` meets its contract. The invariant of its loop: the row holds the servers below u with a link to v. The measure is what is
 -- left of the eight. Assumes nothing.
 use mathlib.Core.Path.{_≡_, _∙_}
-use mathlib.Core.Logic.{_⊎_, ⊎-elim}
+use mathlib.Core.Logic.{⊎-elim}
 use Prim.Native.Nat.{_-_, _≤_}
 use native.Mathlib.Omega.{arith}
 use borrow.Author.Needs.{needs}
