@@ -2,7 +2,7 @@
 --     breaks-broken   numbers that pass the test are a partition that breaks the condition
 --     broken-breaks   sets that break the condition have numbers that pass the test
 --     member-of, of-member     a number that is not 0 has a member, and one whose members are those of a set with some is not 0
---     meet-apart, apart-meet   sets with an empty meet share no server, and the other way
+--     empty-apart, apart-empty   sets with an empty meet share no server, and the other way
 -- Only servers below n count, so a set is known by the number that agrees with it there. The set C is what the other three leave.
 -- Assumes nothing.
 use mathlib.Core.Path.{_≡_, refl, sym, ap, _∙_}
@@ -43,13 +43,13 @@ of-member n s p a (i, k, e) =
 
 -- disjointness
 
-pub meet-apart : (n a b : ℕ) → eqb (meet a b) 0 ≡ true → Apart n (has a) (has b)
-meet-apart n a b e i k p q =
+pub empty-apart : (n a b : ℕ) → eqb (meet a b) 0 ≡ true → Apart n (has a) (has b)
+empty-apart n a b e i k p q =
     let z : has (meet a b) i ≡ false = ap (λ (s : ℕ). has s i) (eqb-true (meet a b) 0 e) ∙ has-empty i in
     clash (has (meet a b) i) (has-meet a b i ∙ both (has a i) (has b i) p q) z
 
-pub apart-meet : (n a b : ℕ) (p q : Set) → a < 2 ^ n → b < 2 ^ n → Agree n a p → Agree n b q → Apart n p q → eqb (meet a b) 0 ≡ true
-apart-meet n a b p q ha hb pa pb h =
+pub apart-empty : (n a b : ℕ) (p q : Set) → a < 2 ^ n → b < 2 ^ n → Agree n a p → Agree n b q → Apart n p q → eqb (meet a b) 0 ≡ true
+apart-empty n a b p q ha hb pa pb h =
     eq-eqb (meet a b) 0 (no-member n (meet a b) (meet-small n a b ha hb) λ i k. has-meet a b i ∙ outside i k)
   where
     outside : (i : ℕ) → i < n → (has a i && has b i) ≡ false
@@ -129,9 +129,9 @@ partition-numbers n F L R a b c =
     λ i k. rest-outside (has F i) (has L i) (has (rest n F L R) i) (has R i) (has-rest n F L R i k) in
     record {
       whole = λ i k. rest-whole (has F i) (has L i) (has (rest n F L R) i) (has R i) (has-rest n F L R i k);
-      FL = meet-apart n F L a;
-      FR = meet-apart n F R b;
-      LR = meet-apart n L R c;
+      FL = empty-apart n F L a;
+      FR = empty-apart n F R b;
+      LR = empty-apart n L R c;
       FC = λ i k p q. clash (has F i) p ((out i k q) .0);
       LC = λ i k p q. clash (has L i) p ((out i k q) .1);
       CR = λ i k q p. clash (has R i) p ((out i k q) .2);
@@ -181,9 +181,9 @@ partition-split n f a b c F L C R h ka kb kc ha hb hc p l r s =
     let few = le-leb (size a) f (let z = size-count n a h ka in let y = count-same n (has a) F ha in omega arith) in
     let x = of-member n b L hb l in
     let y = of-member n c R hc r in
-    let ab = apart-meet n a b F L ka kb ha hb (p .FL) in
-    let ac = apart-meet n a c F R ka kc ha hc (p .FR) in
-    let bc = apart-meet n b c L R kb kc hb hc (p .LR) in
+    let ab = apart-empty n a b F L ka kb ha hb (p .FL) in
+    let ac = apart-empty n a c F R ka kc ha hc (p .FR) in
+    let bc = apart-empty n b c L R kb kc hb hc (p .LR) in
     cc
 
 pub broken-breaks : (n f : ℕ) (links : Links) (a b c : ℕ) (F L C R : Set) → n ≤ 8 → a < 2 ^ n → b < 2 ^ n → c < 2 ^ n

@@ -1,4 +1,7 @@
--- Some server below n is in a set: which one, and in another set that has the same servers there.
+-- Whether some server below n is in a set.
+--     someBelow-same    sets that have the same servers below n
+--     some-at, some-of  if so there is one, and the other way
+--     none-at, none-of  if not none is, and the other way
 -- Assumes nothing.
 use mathlib.Core.Path.{_≡_, refl}
 use mathlib.Core.Logic.{⊎-elim}

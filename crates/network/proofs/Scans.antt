@@ -18,7 +18,8 @@ use Rattle.sets.proofs.Members.{meet-comm, meet-nothing, apart-left, apart-righ
 use Rattle.sets.proofs.Apart.{next-apart, next-after, next-least, next-small}
 use Rattle.network.specs.Links.{Links}
 use Rattle.network.specs.Split.{Split, good, bad, unread, orElse, rest, badAt, firstFrom, badWithSides, badWithFaults, firstBad}
-use Rattle.network.specs.Weak.{outside, weak, Tables}
+use Rattle.network.specs.Weak.{outside, weak}
+use Rattle.network.specs.Sources.{Tables}
 use Rattle.network.proofs.Weakness.{weak-empty, weak-meets, weak-is, no-faults, no-sides, none-empty, none-busy, none-right, bad-here}
 
 abbrev pub Left : ℕ → ℕ → (ℕ → Split) → Split → Split → Type 0

@@ -2,8 +2,8 @@
 -- server at once.
 --     someBelow-..     a test on servers: those beyond n, two halves
 --     to-..            the loop of `sources`: the servers below u with a link to v
---     rows-..          the loop of `source_rows`
---     half-..          the loop of `half_table`; joined-.. what `into_half` computes
+--     rows-..          the loop of `source_rows`; rows-has by membership
+--     half-..          what `into_half` computes, and the loop of `half_table`; half-has by membership
 --     halves-of        the tables are those of a proper network's links
 --     halves-into      the two tables give the servers of V with a link into a set
 -- Assumes nothing.
@@ -16,13 +16,13 @@ use lib.ListN.{length, getD, set, length-set}
 use lib.Seq.{getD-set-same, getD-set-other}
 use lib.Dec.{eqb, ltb}
 use lib.Pow.{pow-mono}
-use borrow.Author.Tests.{lt-ltb, le-ltb, eqb-true, eqb-false, ltb-true}
+use borrow.Author.Tests.{lt-ltb, le-ltb, eqb-true, eqb-false, ltb-true, ltb-false}
 use Rattle.facts.proofs.Bools.{cases, same}
-use Rattle.sets.specs.Sets.{Set, has, union, single}
-use Rattle.sets.proofs.Members.{has-union, has-single, single-is, has-empty, has-beyond, has-mod, has-div}
+use Rattle.sets.specs.Sets.{Set, has, union, single, encode}
+use Rattle.sets.proofs.Members.{has-union, has-single, single-is, has-empty, has-beyond, has-mod, has-div, encode-has, encode-small, same-all}
 use Rattle.network.specs.Links.{Links, linkedIn}
 use Rattle.network.specs.Split.{someBelow}
-use Rattle.network.specs.Sources.{Sources, SourcesOf, Joined, HalfTable, intoOf, Halves}
+use Rattle.network.specs.Sources.{sourcesTo, SourceRows, SourcesOf, Sources, rowIf, intoHalf, HalfTable, intoOf, Halves}
 use Rattle.network.specs.Proper.{Proper}
 use Rattle.network.proofs.Neighbours.{someBelow-same, none-of}
 
@@ -84,85 +84,105 @@ module _ (links : Links) (v u row : ℕ) (so : SourcesOf links v u row) where
 
 -- source_rows
 
+-- the row that the loop ends with is the definition's
+sources-has : (links : Links) (v : ℕ) → SourcesOf links v 8 (sourcesTo links v)
+unfolding sourcesTo
+sources-has links v u =
+    cases (ltb u 8)
+    (λ q. encode-has 8 (λ (u : ℕ). linkedIn links u v) u (ltb-true u 8 q) ∙ (let z = q in cc))
+    (λ q. has-beyond 8 (encode 8 (λ (u : ℕ). linkedIn links u v)) u (encode-small 8 (λ (u : ℕ). linkedIn links u v)) (ltb-false u 8 q) ∙ (let z = q in cc))
+
+pub to-ends : (links : Links) (v u row : ℕ) → SourcesOf links v u row → u ≡ 8 → row ≡ sourcesTo links v
+to-ends links v u row so e = same-all row (sourcesTo links v) (λ w. (rw e at so) w ∙ sym (sources-has links v w))
+
 pub record Rows (links : Links) (v : ℕ) (rows : List ℕ) : Type 0 where
   pub inside : v ≤ 8
   pub long : length rows ≡ 8
-  pub made : (x : ℕ) → x < v → SourcesOf links x 8 (getD rows x 0)
+  pub made : (x : ℕ) → x < v → getD rows x 0 ≡ sourcesTo links x
 
 pub rows-start : (links : Links) (rows : List ℕ) → length rows ≡ 8 → Rows links 0 rows
 rows-start links rows l = record { inside = omega arith; long = l; made = λ x h. absurd (omega arith) }
 
-pub rows-turn : (links : Links) (v : ℕ) (rows : List ℕ) → Rows links v rows → v < 8 → (row : ℕ) → SourcesOf links v 8 row → Rows links (v + 1) (set rows v row)
+pub rows-turn : (links : Links) (v : ℕ) (rows : List ℕ) → Rows links v rows → v < 8 → (row : ℕ) → row ≡ sourcesTo links v → Rows links (v + 1) (set rows v row)
 rows-turn links v rows r k row so =
     record {
       inside = omega arith;
       long = simp length-set (r .long);
-      made = λ x h. cases (eqb x v) (λ q. here x (eqb-true x v q)) (λ q. below x h (eqb-false x v q));
+      made = λ x h. cases (eqb x v) (λ q. here x (eqb-true x v q)) (λ q. getD-set-other rows v x row 0 (eqb-false x v q) ∙ r .made x (let o = eqb-false x v q in omega arith));
     }
   where
-    here : (x : ℕ) → x ≡ v → SourcesOf links x 8 (getD (set rows v row) x 0)
-    here x q = rw q (let l = r .long in let g = getD-set-same rows v row 0 (omega arith) in λ u. ap (λ (z : ℕ). has z u) g ∙ so u)
+    here : (x : ℕ) → x ≡ v → getD (set rows v row) x 0 ≡ sourcesTo links x
+    here x q = rw q (let l = r .long in getD-set-same rows v row 0 (omega arith) ∙ so)
 
-    below : (x : ℕ) → x < v + 1 → (x ≡ v → ⊥) → SourcesOf links x 8 (getD (set rows v row) x 0)
-    below x h o u = let g = getD-set-other rows v x row 0 o in ap (λ (z : ℕ). has z u) g ∙ r .made x (omega arith) u
+pub rows-has : (links : Links) (rows : List ℕ) → SourceRows links rows → (v : ℕ) → v < 8 → SourcesOf links v 8 (getD rows v 0)
+rows-has links rows r v h u = ap (λ (x : ℕ). has x u) (r v h) ∙ sources-has links v u
 
 -- a proper network has links from servers of V alone
-sources-proper : (n f : ℕ) (links : Links) (rows : List ℕ) → Proper n f links → ((v : ℕ) → v < 8 → SourcesOf links v 8 (getD rows v 0)) → Sources n links rows
+sources-proper : (n f : ℕ) (links : Links) (rows : List ℕ) → Proper n f links → SourceRows links rows → Sources n links rows
 sources-proper n f links rows p r v h u =
-    r v h u
+    rows-has links rows r v h u
     ∙ cases (linkedIn links u v)
     (λ e. let a = p .from u v e in let m = p .most in let x = lt-ltb u 8 (omega arith) in let y = lt-ltb u n a in cc)
     (λ e. cases (ltb u 8) (λ x. cases (ltb u n) (λ y. cc) (λ y. cc)) (λ x. cases (ltb u n) (λ y. cc) (λ y. cc)))
 
-pub halves-of : (n f : ℕ) (links : Links) (rows lower upper : List ℕ) → Proper n f links → ((v : ℕ) → v < 8 → SourcesOf links v 8 (getD rows v 0))
-    → HalfTable rows 0 lower → HalfTable rows 4 upper → Halves n links lower upper
+pub halves-of : (n f : ℕ) (links : Links) (rows lower upper : List ℕ) → Proper n f links → SourceRows links rows → HalfTable rows 0 lower → HalfTable rows 4 upper
+    → Halves n links lower upper
 halves-of n f links rows lower upper p r l u = record { rows = rows; sources = sources-proper n f links rows p r; low = l; high = u }
 
 -- into_half
+
+pub half-made : (rows : List ℕ) (first x a b c d ab abc abcd : ℕ)
+    → a ≡ cond (has x 0) (getD rows first 0) 0 → b ≡ cond (has x 1) (getD rows (first + 1) 0) 0
+    → c ≡ cond (has x 2) (getD rows (first + 2) 0) 0 → d ≡ cond (has x 3) (getD rows (first + 3) 0) 0
+    → ab ≡ union b a → abc ≡ union c ab → abcd ≡ union d abc → abcd ≡ intoHalf rows first x
+unfolding intoHalf rowIf
+half-made rows first x a b c d ab abc abcd ea eb ec ed p q r = let z : first + 0 ≡ first = omega arith in rw z (cc)
 
 has-kept : (b : Bool) (row u : ℕ) → has (cond b row 0) u ≡ (b && has row u)
 has-kept true row u = refl
 has-kept false row u = has-empty u
 
-pub joined-four : (rows : List ℕ) (first x a b c d ab abc abcd : ℕ)
-    → a ≡ cond (has x 0) (getD rows first 0) 0 → b ≡ cond (has x 1) (getD rows (first + 1) 0) 0
-    → c ≡ cond (has x 2) (getD rows (first + 2) 0) 0 → d ≡ cond (has x 3) (getD rows (first + 3) 0) 0
-    → ab ≡ union b a → abc ≡ union c ab → abcd ≡ union d abc → Joined rows first x abcd
-unfolding someBelow
-joined-four rows first x a b c d ab abc abcd ea eb ec ed p q r u =
-    let a′ : has a u ≡ (has x 0 && has (getD rows (first + 0) 0) u) = let z : first + 0 ≡ first = omega arith in rw z (ap (λ (y : ℕ). has y u) ea ∙ has-kept (has x 0) (getD rows first 0) u) in
-    let b′ : has b u ≡ (has x 1 && has (getD rows (first + 1) 0) u) = ap (λ (y : ℕ). has y u) eb ∙ has-kept (has x 1) (getD rows (first + 1) 0) u in
-    let c′ : has c u ≡ (has x 2 && has (getD rows (first + 2) 0) u) = ap (λ (y : ℕ). has y u) ec ∙ has-kept (has x 2) (getD rows (first + 2) 0) u in
-    let d′ : has d u ≡ (has x 3 && has (getD rows (first + 3) 0) u) = ap (λ (y : ℕ). has y u) ed ∙ has-kept (has x 3) (getD rows (first + 3) 0) u in
-    let i = has-union b a u in
-    let j = has-union c ab u in
-    let k = has-union d abc u in
-    let o = or-false (has a u) in
+row-has : (rows : List ℕ) (first x i u : ℕ) → has (rowIf rows first x i) u ≡ (has x i && has (getD rows (first + i) 0) u)
+unfolding rowIf
+row-has rows first x i u = has-kept (has x i) (getD rows (first + i) 0) u
+
+-- the servers in the rows of the members of x, by membership
+half-has : (rows : List ℕ) (first x u : ℕ) → has (intoHalf rows first x) u ≡ someBelow 4 (λ (i : ℕ). has x i && has (getD rows (first + i) 0) u)
+unfolding intoHalf someBelow
+half-has rows first x u =
+    let a = kept 0 in
+    let b = kept 1 in
+    let c = kept 2 in
+    let d = kept 3 in
+    let i = has-union (rowIf rows first x 1) (rowIf rows first x 0) u in
+    let j = has-union (rowIf rows first x 2) (union (rowIf rows first x 1) (rowIf rows first x 0)) u in
+    let k = has-union (rowIf rows first x 3) (union (rowIf rows first x 2) (union (rowIf rows first x 1) (rowIf rows first x 0))) u in
+    let o = or-false (has (rowIf rows first x 0) u) in
     cc
+  where
+    kept : (i : ℕ) → has (rowIf rows first x i) u ≡ (has x i && has (getD rows (first + i) 0) u)
+    kept i = row-has rows first x i u
 
 -- half_table
 
 pub record Halving (rows : List ℕ) (first x : ℕ) (table : List ℕ) : Type 0 where
   pub inside : x ≤ 16
   pub long : length table ≡ 16
-  pub made : (y : ℕ) → y < x → Joined rows first y (getD table y 0)
+  pub made : (y : ℕ) → y < x → getD table y 0 ≡ intoHalf rows first y
 
 pub half-starts : (rows : List ℕ) (first : ℕ) (table : List ℕ) → length table ≡ 16 → Halving rows first 0 table
 half-starts rows first table l = record { inside = omega arith; long = l; made = λ y h. absurd (omega arith) }
 
-pub half-turn : (rows : List ℕ) (first x : ℕ) (table : List ℕ) → Halving rows first x table → x < 16 → (into : ℕ) → Joined rows first x into → Halving rows first (x + 1) (set table x into)
+pub half-turn : (rows : List ℕ) (first x : ℕ) (table : List ℕ) → Halving rows first x table → x < 16 → (into : ℕ) → into ≡ intoHalf rows first x → Halving rows first (x + 1) (set table x into)
 half-turn rows first x table m k into j =
     record {
       inside = omega arith;
       long = simp length-set (m .long);
-      made = λ y h. cases (eqb y x) (λ q. here y (eqb-true y x q)) (λ q. below y h (eqb-false y x q));
+      made = λ y h. cases (eqb y x) (λ q. here y (eqb-true y x q)) (λ q. getD-set-other table x y into 0 (eqb-false y x q) ∙ m .made y (let o = eqb-false y x q in omega arith));
     }
   where
-    here : (y : ℕ) → y ≡ x → Joined rows first y (getD (set table x into) y 0)
-    here y q = rw q (let l = m .long in let g = getD-set-same table x into 0 (omega arith) in λ u. ap (λ (z : ℕ). has z u) g ∙ j u)
-
-    below : (y : ℕ) → y < x + 1 → (y ≡ x → ⊥) → Joined rows first y (getD (set table x into) y 0)
-    below y h o u = let g = getD-set-other table x y into 0 o in ap (λ (z : ℕ). has z u) g ∙ m .made y (omega arith) u
+    here : (y : ℕ) → y ≡ x → getD (set table x into) y 0 ≡ intoHalf rows first y
+    here y q = rw q (let l = m .long in getD-set-same table x into 0 (omega arith) ∙ j)
 
 -- the lower and the upper four servers of a set
 
@@ -185,13 +205,13 @@ module _ (n : ℕ) (links : Links) (rows : List ℕ) (few : n ≤ 8) (so : Sourc
   module _ (lower upper : List ℕ) (low : HalfTable rows 0 lower) (high : HalfTable rows 4 upper) where
     lower-part : has (getD lower (s % 16) 0) u ≡ someBelow 4 (λ (i : ℕ). has s i && has (getD rows i 0) u)
     lower-part =
-        low (s % 16) (omega arith) u
+        ap (λ (x : ℕ). has x u) (low (s % 16) (omega arith)) ∙ half-has rows 0 (s % 16) u
         ∙ someBelow-same 4 (λ (i : ℕ). has (s % 16) i && has (getD rows (0 + i) 0) u) (λ (i : ℕ). has s i && has (getD rows i 0) u)
         (λ i k. let a = has-mod 4 s i k in let z : 0 + i ≡ i = omega arith in rw z (cc))
 
     upper-part : s < 256 → has (getD upper (s / 16) 0) u ≡ someBelow 4 (λ (i : ℕ). has s (4 + i) && has (getD rows (4 + i) 0) u)
     upper-part h =
-        high (s / 16) (omega arith) u
+        ap (λ (x : ℕ). has x u) (high (s / 16) (omega arith)) ∙ half-has rows 4 (s / 16) u
         ∙ someBelow-same 4 (λ (i : ℕ). has (s / 16) i && has (getD rows (4 + i) 0) u) (λ (i : ℕ). has s (4 + i) && has (getD rows (4 + i) 0) u)
         (λ i k. let a = has-div 4 s i in cc)
 

@@ -1,4 +1,5 @@
-// The network of a card: the card reader, the split test, and the clean card printed back.
+// The network of a card: the card reader, the links and who has one into a set, the split test, and
+// the clean card printed back.
 pub mod card;
 pub mod links;
 pub mod print;

@@ -2,15 +2,14 @@
 // the upper four, so that a scan over many sets looks it up.
 ghost use mathlib.Core.Path.{_≡_};
 ghost use mathlib.Core.Bool.{cond};
-ghost use Prim.Native.Nat.{ℕ, _≤_, _<_};
-ghost use lib.ListN.{getD};
+ghost use Prim.Native.Nat.{_≤_, _<_};
 ghost use Rattle.sets.specs.Sets.{has};
-ghost use Rattle.network.specs.Sources.{SourcesOf, Joined, HalfTable, intoOf};
+ghost use Rattle.network.specs.Sources.{sourcesTo, SourceRows, intoHalf, HalfTable, intoOf};
 
 // The servers with a link to v.
 fn sources(links: &[[bool; 8]; 8], v: usize) -> u8
     requires { ⌜ v < 8 ⌝ }
-    ensures { λ r. ⌜ SourcesOf (now (links .entry)) v 8 r ⌝ }
+    ensures { λ r. ⌜ r ≡ sourcesTo (now (links .entry)) v ⌝ }
 {
     let mut row: u8 = 0;
     for u in 0..8usize {
@@ -23,7 +22,7 @@ fn sources(links: &[[bool; 8]; 8], v: usize) -> u8
 
 // The sources of each server.
 pub fn source_rows(links: [[bool; 8]; 8]) -> [u8; 8]
-    ensures { λ r. ⌜ ((v : ℕ) → v < 8 → SourcesOf links v 8 (getD r v 0)) ⌝ }
+    ensures { λ r. ⌜ SourceRows links r ⌝ }
 {
     let mut rows = [0u8; 8];
     for v in 0..8usize {
@@ -46,7 +45,7 @@ fn kept(x: u8, i: u8, row: u8) -> u8
 // The servers with a link into the servers of x, which are counted from `first` on.
 fn into_half(rows: [u8; 8], first: usize, x: u8) -> u8
     requires { ⌜ first ≤ 4 ⌝ }
-    ensures { λ r. ⌜ Joined rows first x r ⌝ }
+    ensures { λ r. ⌜ r ≡ intoHalf rows first x ⌝ }
 {
     let a = kept(x, 0, rows[first]);
     let b = kept(x, 1, rows[first + 1]);

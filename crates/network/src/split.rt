@@ -8,7 +8,8 @@ ghost use Prim.Native.Nat.{ℕ, _≤_, _<_, _^_};
 ghost use lib.Dec.{leb};
 ghost use Rattle.network.specs.Links.{Links};
 ghost use Rattle.network.specs.Split.{firstBad, splitTest};
-ghost use Rattle.network.specs.Weak.{outside, Tables};
+ghost use Rattle.network.specs.Weak.{outside};
+ghost use Rattle.network.specs.Sources.{Tables};
 ghost use Rattle.network.specs.Proper.{Proper};
 ghost use Rattle.network.specs.Answers.{splitAnswerOf};
 

@@ -8,19 +8,15 @@
 -- Assumes nothing.
 use mathlib.Core.Path.{_≡_, refl, ap, _∙_}
 use mathlib.Core.Bool.{Bool, true, false, not, _&&_}
-use Prim.Native.Nat.{ℕ, zero, suc, _+_, _*_, _/_, _%_, _^_, _≤_, _<_, min}
+use Prim.Native.Nat.{ℕ, _+_, _*_, _/_, _%_, _^_, _≤_, _<_, min}
 use native.Mathlib.Omega.{arith}
 use lib.Arith.{bin-ind}
 use lib.Bits.{bitAnd, and-step, and-le-r, and-zero-r, or-disjoint, xor-add-and}
-use lib.Dec.{eqb, lit<}
+use lib.Dec.{eqb}
 use borrow.Author.Tests.{eqb-true, eqb-false}
 use Rattle.facts.proofs.Bools.{cases}
 use Rattle.sets.specs.Sets.{has, union, meet, minus, next}
-use Rattle.sets.proofs.Members.{pow-double, has-meet, has-minus, no-member, union-small}
-
-below-power : (n : ℕ) → n < 2 ^ n
-below-power zero = lit< tt
-below-power (suc n) = let ih = below-power n in let e = pow-double n in omega arith
+use Rattle.sets.proofs.Members.{below-power, has-meet, has-minus, no-member, union-small}
 
 meet-le : (a b : ℕ) → meet a b ≤ b
 unfolding meet

@@ -5,6 +5,7 @@
 --     has-beyond    a set below 2^n has no member from n on
 --     has-full      the full set of n servers has the servers below n
 --     same-members  two sets below 2^n with the same members below n are equal; same-all for any two sets
+--     top-clear     a set without its last server is a set of the others
 --     encode-has    the number of a test has the test's members; encode-small bounds it
 --     has-single    server i alone has just i
 --     meet-apart    sets with an empty meet share no member; apart-meet the other way; apart-union and its halves
@@ -222,7 +223,7 @@ same-members (suc n) a b p q h =
     let heads = digit-same a b (h 0 (omega arith)) in
     omega arith
 
-below-power : (n : ℕ) → n < 2 ^ n
+pub below-power : (n : ℕ) → n < 2 ^ n
 below-power zero = lit< tt
 below-power (suc n) = let ih = below-power n in let e = pow-double n in omega arith
 
@@ -241,6 +242,15 @@ encode-small (suc n) p =
     let ih = encode-small n (λ (i : ℕ). p (suc i)) in
     let e = pow-double n in
     cases (p 0) (λ q. rw q (omega arith)) (λ q. rw q (omega arith))
+
+-- a set without its last server is a set of the others
+pub top-clear : (m s : ℕ) → s < 2 ^ suc m → has s m ≡ false → s < 2 ^ m
+top-clear zero s h e = let a = eqb-false (s % 2) 1 (sym (has-zero s) ∙ e) in omega arith
+top-clear (suc m) s h e =
+    let p = pow-double (suc m) in
+    let q = pow-double m in
+    let ih = top-clear m (s / 2) (omega arith) (sym (has-suc s m) ∙ e) in
+    omega arith
 
 pub encode-has : (n : ℕ) (p : Set) (i : ℕ) → i < n → has (encode n p) i ≡ p i
 unfolding encode

@@ -8,20 +8,19 @@
 use mathlib.Core.Path.{_≡_, refl, sym, ap, _∙_}
 use mathlib.Core.Logic.{⊎-elim}
 use mathlib.Core.Bool.{true, false, not, _&&_, _||_}
-use Prim.Native.Nat.{ℕ, zero, suc, _*_, _/_, _%_, _^_, _≤_, _<_}
+use Prim.Native.Nat.{ℕ, suc, _*_, _^_, _≤_, _<_}
 use native.Mathlib.Omega.{arith}
 use mathlib.Core.List.{List}
 use lib.Dec.{eqb, ltb}
 use lib.ListN.{getD}
 use borrow.Author.Tests.{eq-eqb, eqb-false, ne-eqb, ltb-true, ltb-false}
 use Rattle.facts.proofs.Bools.{cases, clash, is-false, and-left, and-right, not-true, or-cases}
-use Rattle.sets.specs.Sets.{Set, In, has, meet, minus, full, size}
-use Rattle.sets.proofs.Members.{has-zero, has-suc, has-minus, has-beyond, pow-double, same-all, apart-meet, encode-has, encode-small}
+use Rattle.sets.specs.Sets.{Set, In, has, meet, minus, full, size, TableOf}
+use Rattle.sets.proofs.Members.{has-minus, has-beyond, pow-double, same-all, top-clear, apart-meet, encode-has, encode-small}
 use Rattle.sets.proofs.Counts.{count-mono, size-count}
 use Rattle.network.specs.Links.{Links, linkedIn}
 use Rattle.network.specs.Split.{someBelow, incoming}
-use Rattle.network.specs.Sources.{intoOf}
-use Rattle.network.specs.Weak.{Tables}
+use Rattle.network.specs.Sources.{intoOf, Tables}
 use Rattle.network.proofs.Neighbours.{none-at, none-of}
 use Rattle.network.proofs.SourceRows.{halves-into}
 use Rattle.condition.proofs.Partitions.{of-member}
@@ -100,15 +99,6 @@ module _ (n : ℕ) (links : Links) where
         let c = count-mono n (has (neighbours n links X)) (has K) around-within in
         rw others-left (omega arith)
 
--- a set without its last server is a set of the others
-top-clear : (m s : ℕ) → s < 2 ^ suc m → has s m ≡ false → s < 2 ^ m
-top-clear zero s h e = let a = eqb-false (s % 2) 1 (sym (has-zero s) ∙ e) in omega arith
-top-clear (suc m) s h e =
-    let p = pow-double (suc m) in
-    let q = pow-double m in
-    let ih = top-clear m (s / 2) (omega arith) (sym (has-suc s m) ∙ e) in
-    omega arith
-
 separates-flip : (n : ℕ) (links : Links) (K L R : Set) → Separates n (linkedIn links) K L R → Separates n (linkedIn links) K R L
 separates-flip n links K L R w =
     record {
@@ -172,19 +162,18 @@ module _ (n : ℕ) (links : Links) (few : n ≤ 8) (sizes lower upper : List ℕ
   pub around-is : near ≡ neighbours n links L
   around-is = same-all near (neighbours n links L) (λ u. ap (λ (x : ℕ). has x u) e ∙ near-has u ∙ sym (has-around n links L u))
 
-  module _ (servers without others′ most : ℕ) (all : servers ≡ full n) (w : without ≡ minus servers near) (o : others′ ≡ minus without L) where
-    others-are : others′ ≡ others n (neighbours n links L) L
-    unfolding others
-    others-are = o ∙ ap (λ (x : ℕ). minus x L) (w ∙ ap (λ (x : ℕ). minus x near) all ∙ ap (minus (full n)) around-is)
+  pub others-are : (servers without rest : ℕ) → servers ≡ full n → without ≡ minus servers near → rest ≡ minus without L → rest ≡ others n (neighbours n links L) L
+  unfolding others
+  others-are servers without rest all w o = o ∙ ap (λ (x : ℕ). minus x L) (w ∙ ap (λ (x : ℕ). minus x near) all ∙ ap (minus (full n)) around-is)
 
-    pub cut-none : others′ ≡ 0 → most ≡ cutOff n links most L
-    unfolding cutOff
-    cut-none z = let a = eq-eqb (others n (neighbours n links L) L) 0 (sym others-are ∙ z) in cc
+module _ (n : ℕ) (links : Links) (most L rest : ℕ) (o : rest ≡ others n (neighbours n links L) L) where
+  pub cut-none : rest ≡ 0 → most ≡ cutOff n links most L
+  unfolding cutOff
+  cut-none z = let a = eq-eqb (others n (neighbours n links L) L) 0 (sym o ∙ z) in cc
 
-    pub cut-some : near < 256 → (others′ ≡ 0 → ⊥) → getD sizes near 0 ≡ cutOff n links most L
-    unfolding cutOff
-    cut-some byte z =
-        let a = ne-eqb (others n (neighbours n links L) L) 0 (λ q. z (others-are ∙ q)) in
-        let b = t .sized .entry near byte in
-        let c = around-is in
-        cc
+  pub cut-some : (sizes : List ℕ) → TableOf size sizes → (near : ℕ) → near ≡ neighbours n links L → near < 256 → (rest ≡ 0 → ⊥) → getD sizes near 0 ≡ cutOff n links most L
+  unfolding cutOff
+  cut-some sizes t near e byte z =
+      let a = ne-eqb (others n (neighbours n links L) L) 0 (λ q. z (o ∙ q)) in
+      let b = t .entry near byte in
+      cc

@@ -1,6 +1,6 @@
 -- Counts of the servers from one number on and below another, and of the first so many of a set.
 --     count-between   at most as many as there are numbers
---     firstOf, laterOf   the first a members of a set, and those after them; count-first and count-later, how many they are
+--     firstOf, laterOf   the first a members of a set, and those after them; count-first and count-later, at most how many they are
 -- Assumes nothing.
 use mathlib.Core.Path.{_≡_}
 use mathlib.Core.Bool.{not, _&&_, _||_}

@@ -7,8 +7,8 @@
 -- Counting     counts of servers between two numbers, and of the first so many of a set
 -- Rule         the older rule against Theorem 1's condition
 -- Main         what a user relies on
-pub mod Returns
-pub mod Parts
+mod Returns
+mod Parts
 mod Linked
 mod Around
 mod Scanned

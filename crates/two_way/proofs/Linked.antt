@@ -17,11 +17,19 @@ use Rattle.sets.specs.Sets.{has, single, union, full}
 use Rattle.sets.proofs.Members.{has-union, has-single, has-full}
 use Rattle.network.specs.Links.{Links, linkedIn}
 use Rattle.network.specs.Split.{someBelow}
-use Rattle.network.specs.Sources.{SourcesOf}
+use Rattle.network.specs.Sources.{SourceRows}
+use Rattle.network.proofs.SourceRows.{rows-has}
 use Rattle.network.proofs.Neighbours.{some-of, none-at, none-of}
 use Rattle.two_way.specs.Separation.{others, separable, connectivity}
 use Rattle.two_way.specs.Scan.{everyLinked}
 use Rattle.two_way.proofs.Parts.{parts-separate, separable-found, connectivity-is}
+
+-- all servers, and a row with its own server, as the code makes them
+pub all-of : (n servers : ℕ) → n ≤ 8 → servers ≡ full (min n 8) → servers ≡ full n
+all-of n servers few e = let w : min n 8 ≡ n = omega arith in e ∙ ap full w
+
+pub with-itself : (row itself v all : ℕ) → itself ≡ single v → all ≡ union row itself → all ≡ union row (single v)
+with-itself row itself v all b c = c ∙ ap (union row) b
 
 pub record Joining (n : ℕ) (rows : List ℕ) (v : ℕ) : Type 0 where
   pub inside : v ≤ n
@@ -35,10 +43,7 @@ abbrev missing : ℕ → List ℕ → ℕ → Bool
 missing n rows v = not (eqb (union (getD rows v 0) (single v)) (full n))
 
 module _ (n : ℕ) (rows : List ℕ) (v : ℕ) (s : Joining n rows v) where
-  module _ (few : n ≤ 8) (servers itself all : ℕ) (a : servers ≡ full (min n 8)) (b : itself ≡ single v) (c : all ≡ union (getD rows v 0) itself) (h : v < n) where
-    servers-are : servers ≡ full n
-    servers-are = let w : min n 8 ≡ n = omega arith in a ∙ ap full w
-
+  module _ (servers all : ℕ) (a : servers ≡ full n) (b : all ≡ union (getD rows v 0) (single v)) (h : v < n) where
     pub joining-goes : all ≡ servers → Joining n rows (v + 1)
     joining-goes e =
         record {
@@ -47,19 +52,19 @@ module _ (n : ℕ) (rows : List ℕ) (v : ℕ) (s : Joining n rows v) where
         }
       where
         here : union (getD rows v 0) (single v) ≡ full n
-        here = let z = servers-are in cc
+        here = cc
 
     pub joining-misses : (all ≡ servers → ⊥) → false ≡ everyLinked n rows
     unfolding everyLinked
     joining-misses o =
-        sym (ap not (some-of n (missing n rows) v h (ap not (ne-eqb (union (getD rows v 0) (single v)) (full n) (λ q. o (c ∙ ap (union (getD rows v 0)) b ∙ q ∙ sym servers-are))))))
+        sym (ap not (some-of n (missing n rows) v h (ap not (ne-eqb (union (getD rows v 0) (single v)) (full n) (λ q. o (b ∙ q ∙ sym a))))))
 
   pub joining-ends : n ≤ v → true ≡ everyLinked n rows
   unfolding everyLinked
   joining-ends h =
       sym (ap not (none-of n (missing n rows) (λ w k. ap not (eq-eqb (union (getD rows w 0) (single w)) (full n) (s .whole w (omega arith))))))
 
-module _ (n : ℕ) (links : Links) (rows : List ℕ) (few : n ≤ 8) (so : (v : ℕ) → v < 8 → SourcesOf links v 8 (getD rows v 0)) (e : everyLinked n rows ≡ true) where
+module _ (n : ℕ) (links : Links) (rows : List ℕ) (few : n ≤ 8) (so : SourceRows links rows) (e : everyLinked n rows ≡ true) where
   every-link : (u v : ℕ) → u < n → v < n → (u ≡ v → ⊥) → linkedIn links u v ≡ true
   unfolding everyLinked
   every-link u v h k other =
@@ -69,7 +74,7 @@ module _ (n : ℕ) (links : Links) (rows : List ℕ) (few : n ≤ 8) (so : (v : 
       let d = has-union (getD rows v 0) (single v) u in
       let f = has-single v u in
       let g = ne-eqb v u (λ q. other (sym q)) in
-      let i = so v (omega arith) u in
+      let i = rows-has links rows so v (omega arith) u in
       cases (linkedIn links u v) (λ x. x) (λ x. cases (ltb v 8) (λ y. cases (ltb u 8) (λ z. cc) (λ z. cc)) (λ y. cases (ltb u 8) (λ z. cc) (λ z. cc)))
 
   pub linked-most : n - 1 ≡ connectivity n links

@@ -1,4 +1,5 @@
--- What a user relies on: the quick test's number is the least one, and its yes is the split test's "none".
+-- What a user relies on: which cards the quick test takes, that its number is the least one, and its yes the split test's "none".
+--     takes      of the cards that are read it answers those whose links all have a return, and refuses 15 for the others
 --     least      the number that is answered is the size of a smallest set of servers that separates; n − 1 if none does
 --     agrees     on every card that it answers, the older rule holds exactly if the split test says none
 -- Assumes nothing.
@@ -17,10 +18,10 @@ use Rattle.condition.specs.Condition.{Condition}
 use Rattle.condition.proofs.Main.{exact}
 use Rattle.two_way.specs.Separation.{oneWay, connectivity}
 use Rattle.two_way.specs.Quick.{ruled, serversWanted, awayWanted, olderRule, quickOf, quickTest}
-use Rattle.two_way.specs.Least.{Least, Agrees}
-use Rattle.two_way.proofs.Returns.{two-way}
+use Rattle.two_way.specs.Least.{Takes, Least, Agrees}
+use Rattle.two_way.proofs.Returns.{no-one-way, two-way}
 use Rattle.two_way.proofs.Parts.{least-away}
-use Rattle.two_way.proofs.Ruled.{rule-both, rule-servers, rule-away}
+use Rattle.two_way.proofs.Ruled.{rule-both, rule-servers, rule-away, quick-one-way, quick-ruled}
 use Rattle.two_way.proofs.Rule.{rule-condition, condition-wide, condition-apart}
 
 -- the rule's two numbers, and the condition
@@ -75,6 +76,14 @@ answered s holds n least e = go (readCard s) refl e
           least-is = let i : least ≡ connectivity m links = cc in i ∙ ap (λ (x : ℕ). connectivity x links) same;
           holds-is = let i : holds ≡ olderRule m f (connectivity m links) = cc in i ∙ ap (λ (x : ℕ). olderRule x f (connectivity x links)) same;
         })
+
+pub takes : Takes
+unfolding quickTest
+takes s n f links read =
+    let p = card-proper s n f links read in (
+      λ back. (connectivity n links, ap quickOf read ∙ sym (quick-ruled n f links (no-one-way n f links p back) (connectivity n links) refl (olderRule n f (connectivity n links)) refl)),
+      λ o. ap quickOf read ∙ sym (quick-one-way n f links (cases (oneWay n links) (λ e. e) (λ e. absurd (o (λ u v h. sym (two-way n f links p e u v) ∙ h))))),
+    )
 
 pub least : Least
 least s n f links read holds m k e =

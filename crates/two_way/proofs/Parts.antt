@@ -16,7 +16,7 @@ use Prim.Native.Nat.{ℕ, _+_, _-_, _^_, _≤_, _<_}
 use native.Mathlib.Omega.{arith}
 use lib.Dec.{eqb, ltb}
 use borrow.Author.Tests.{eqb-true, eq-eqb, lt-ltb}
-use Rattle.facts.proofs.Bools.{cases, clash, is-false, and-left, and-right, bools}
+use Rattle.facts.proofs.Bools.{cases, clash, is-false, and-left, and-right, or-false-left, or-false-right, bools}
 use Rattle.sets.specs.Sets.{Set, has, meet, minus, full, count, size, encode}
 use Rattle.sets.proofs.Members.{has-minus, has-full, minus-small, full-small, encode-has, encode-small}
 use Rattle.sets.proofs.Counts.{count-same, count-apart, count-all, count-some, size-count}
@@ -25,7 +25,7 @@ use Rattle.network.specs.Links.{Links, linkedIn}
 use Rattle.network.specs.Split.{someBelow}
 use Rattle.network.proofs.Neighbours.{some-at, some-of, none-at, none-of}
 use Rattle.condition.proofs.Neighbours.{Agree}
-use Rattle.condition.proofs.Partitions.{member-of, of-member, meet-apart, apart-meet}
+use Rattle.condition.proofs.Partitions.{member-of, of-member, empty-apart, apart-empty}
 use Rattle.two_way.specs.Separation.{linkTo, others, parts, separates, separable, connectivity}
 use Rattle.two_way.specs.Least.{Separates, Separable, LeastAway}
 
@@ -77,14 +77,6 @@ unlinked n links a b h =
     from u k x =
         none-of n (λ (v : ℕ). has b v && linkedIn links u v) (λ v l. cases (has b v) (λ y. let z = h u v k l x y in cc) (λ y. cc))
 
-or-false-left : (a b : Bool) → (a || b) ≡ false → a ≡ false
-or-false-left true b e = e
-or-false-left false b e = refl
-
-or-false-right : (a b : Bool) → (a || b) ≡ false → b ≡ false
-or-false-right true b e = clash true refl e
-or-false-right false b e = e
-
 -- from numbers to sets
 
 pub parts-separate : (n : ℕ) (links : Links) (K L : ℕ) → n ≤ 8 → L < 2 ^ n → parts n links K L ≡ true
@@ -98,7 +90,7 @@ parts-separate n links K L few small e =
     let none : (linkTo n links L R || linkTo n links R L) ≡ false = search bools in
     record {
       whole = each-somewhere n K L;
-      KL = meet-apart n K L kl;
+      KL = empty-apart n K L kl;
       KR = λ i k x y. clash (has K i) x (others-not-K n K L i k y);
       LR = λ i k x y. clash (has L i) x (others-not-L n K L i k y);
       left = member-of n L few small l;
@@ -127,7 +119,7 @@ module _ (n : ℕ) (links : Links) (k l : ℕ) (K L R : Set) (ak : Agree n k K) 
   pub separate-parts : k < 2 ^ n → l < 2 ^ n → parts n links k l ≡ true
   unfolding parts
   separate-parts hk hl =
-      let a = apart-meet n k l K L hk hl ak al (w .KL) in
+      let a = apart-empty n k l K L hk hl ak al (w .KL) in
       let b = of-member n l L al (w .left) in
       let c = of-member n (others n k l) R agree-others (w .right) in
       let d = unlinked n links l (others n k l) (λ u v h g x y. w .noLinkLR u v h g (sym (al u h) ∙ x) (sym (agree-others v g) ∙ y)) in

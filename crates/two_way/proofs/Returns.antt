@@ -1,4 +1,5 @@
 -- Links that all have a return.
+--     no-one-way    if each link has a return, there is none without
 --     two-way       no link without return: a link one way is a link the other way
 --     unlike-is     what the code compares is whether some link has no return; compared-.. its loop
 -- Assumes nothing.
@@ -16,12 +17,14 @@ use Rattle.sets.proofs.Members.{same-all}
 use Rattle.network.specs.Links.{Links, linkedIn}
 use Rattle.network.specs.Rows.{rowsOf}
 use Rattle.network.specs.Split.{someBelow}
-use Rattle.network.specs.Sources.{SourcesOf}
+use Rattle.network.specs.Sources.{SourceRows}
 use Rattle.network.specs.Proper.{Proper}
 use Rattle.network.proofs.LinkRows.{rows-linked}
+use Rattle.network.proofs.SourceRows.{rows-has}
 use Rattle.network.proofs.Neighbours.{some-at, some-of, none-of}
 use Rattle.two_way.specs.Separation.{oneWay}
 use Rattle.two_way.specs.Scan.{unlike}
+use Rattle.two_way.specs.Least.{TwoWay}
 
 -- the link from u to v has no return
 abbrev unanswered : Links → ℕ → Set
@@ -34,19 +37,25 @@ module _ (n f : ℕ) (links : Links) (p : Proper n f links) where
       some-of n (λ (u : ℕ). someBelow n (unanswered links u)) u (p .from u v e)
       (some-of n (unanswered links u) v (p .to u v e) (let z = q in cc))
 
+  pub no-one-way : TwoWay (linkedIn links) → oneWay n links ≡ false
+  unfolding oneWay
+  no-one-way back =
+      none-of n (λ (u : ℕ). someBelow n (unanswered links u))
+      (λ u h. none-of n (unanswered links u) (λ v k. cases (linkedIn links u v) (λ e. let r = back u v e in cc) (λ e. cc)))
+
   pub two-way : oneWay n links ≡ false → (u v : ℕ) → linkedIn links u v ≡ linkedIn links v u
   two-way h u v = same (linkedIn links u v) (linkedIn links v u) (back u v) (back v u)
     where
       back : (u v : ℕ) → linkedIn links u v ≡ true → linkedIn links v u ≡ true
       back u v e = cases (linkedIn links v u) (λ x. x) (λ x. clash (oneWay n links) (one-way u v e x) h)
 
-  module _ (rows sources : List ℕ) (r : rows ≡ rowsOf (linkedIn links)) (so : (v : ℕ) → v < 8 → SourcesOf links v 8 (getD sources v 0)) where
+  module _ (rows sources : List ℕ) (r : rows ≡ rowsOf (linkedIn links)) (so : SourceRows links sources) where
     row-of : (u v : ℕ) → has (getD rows u 0) v ≡ linkedIn links u v
     row-of u v = ap (λ (l : List ℕ). has (getD l u 0) v) r ∙ rows-linked n f links p u v
 
     source-of : (u v : ℕ) → u < 8 → has (getD sources u 0) v ≡ linkedIn links v u
     source-of u v h =
-        so u h v
+        rows-has links sources so u h v
         ∙ cases (linkedIn links v u)
         (λ e. let a = p .from v u e in let m = p .most in let t = lt-ltb v 8 (omega arith) in cc)
         (λ e. cases (ltb v 8) (λ t. cc) (λ t. cc))

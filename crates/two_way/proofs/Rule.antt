@@ -20,7 +20,7 @@ use Rattle.condition.proofs.Theorem.{arrow-cases}
 use Rattle.two_way.specs.Least.{Separates}
 use Rattle.two_way.proofs.Counting.{between, count-between, firstOf, laterOf, count-first, count-later, first-or-later, first-not-later}
 
--- a server without a neighbour's link into B has none to a server of B
+-- a server that is no neighbour of B has no link to a server of B
 not-neighbour : (n : ℕ) (E : Edges) (B : Set) (u v : ℕ) → v < n → neighbour n E B u ≡ false → In B v → Out (E u) v
 unfolding neighbour
 not-neighbour n E B u v k e b = let z = none-at n (λ (j : ℕ). B j && E u j) e v k in cc

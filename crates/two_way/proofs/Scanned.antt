@@ -16,7 +16,7 @@ use Rattle.facts.proofs.Bools.{cases}
 use Rattle.sets.specs.Sets.{full, size}
 use Rattle.sets.proofs.Members.{pow-double}
 use Rattle.network.specs.Links.{Links, linkedIn}
-use Rattle.network.specs.Weak.{Tables}
+use Rattle.network.specs.Sources.{Tables}
 use Rattle.two_way.specs.Separation.{others, separable, connectivity}
 use Rattle.two_way.specs.Scan.{neighbours, cutOff}
 use Rattle.two_way.proofs.Parts.{parts-separable, separable-found, connectivity-is}
@@ -43,20 +43,24 @@ module _ (n : ℕ) (links : Links) where
       (λ z. let q : k ≡ size (neighbours n links L) = rw z at e in
       ap (separable n links) q ∙ parts-separable n links (neighbours n links L) L (around-small n links L) small (around-parts n links back L some z))
 
+  -- one part more
+  passed-more : (k part : ℕ) → ((L : ℕ) → 0 < L → L < part → k ≤ cutOff n links (n - 1) L) → k ≤ cutOff n links (n - 1) part
+      → (L : ℕ) → 0 < L → L < part + 1 → k ≤ cutOff n links (n - 1) L
+  passed-more k part before here L a b =
+      cases (ltb L part)
+      (λ q. before L a (ltb-true L part q))
+      (λ q. let p = ltb-false L part q in let z : part ≡ L = omega arith in rw z at here)
+
   module _ (back : Back links) (least part taken : ℕ) (s : Searched n links least part) (some : 0 < part) (small : part < 2 ^ n) (e : taken ≡ cutOff n links (n - 1) part) where
     pub searched-less : least ≤ n - 1 → taken < least → Searched n links taken (part + 1)
     searched-less most h =
         record {
           met = inr (cut-separable back part some small taken e (omega arith));
-          passed = λ L a b. cases (ltb L part) (λ q. let p = s .passed L a (ltb-true L part q) in omega arith) (λ q. let p = ltb-false L part q in let z : part ≡ L = omega arith in rw z at (let l : taken ≤ cutOff n links (n - 1) part = omega arith in l));
+          passed = passed-more taken part (λ L a b. let p = s .passed L a b in omega arith) (omega arith);
         }
 
     pub searched-kept : least ≤ taken → Searched n links least (part + 1)
-    searched-kept h =
-        record {
-          met = s .met;
-          passed = λ L a b. cases (ltb L part) (λ q. s .passed L a (ltb-true L part q)) (λ q. let p = ltb-false L part q in let z : part ≡ L = omega arith in rw z at (let l : least ≤ cutOff n links (n - 1) part = omega arith in l));
-        }
+    searched-kept h = record { met = s .met; passed = passed-more least part (s .passed) (omega arith) }
 
     pub searched-nothing : 2 ≤ n → taken ≡ 0 → 0 ≡ connectivity n links
     searched-nothing two z =

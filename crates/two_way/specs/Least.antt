@@ -1,18 +1,20 @@
--- The same over arbitrary sets of servers, as Theorem 1 is stated, and what the quick test says of both.
+-- What must be taken away before a network falls apart, over arbitrary sets of servers, as Theorem 1 is stated; and what the quick test says of it.
 --     Separates n E K L R   <-> without K the servers fall into L and R: neither is empty, and no link is between them
 --     LeastAway n E k       <-> k is the size of a smallest K that separates; n − 1 if none does
---     Least, Agrees          what the quick test says
+--     TwoWay E              <-> each link has a return
+--     Takes, Least, Agrees   what the quick test says
 use mathlib.Core.Path.{_≡_}
 use mathlib.Core.Logic.{_⊎_, _↔_}
 use mathlib.Core.Bool.{Bool, true, _||_}
 use mathlib.Core.List.{List}
 use Prim.Native.Nat.{ℕ, _-_, _≤_, _<_}
 use Rattle.sets.specs.Sets.{Set, Edges, In, Out, count}
+use Rattle.refusal.specs.Refused.{call}
 use Rattle.network.specs.Links.{Links, linkedIn}
 use Rattle.network.specs.Card.{network, readCard}
 use Rattle.network.specs.Split.{good, splitTest}
 use Rattle.condition.specs.Condition.{Some}
-use Rattle.two_way.specs.Quick.{ruled, quickTest}
+use Rattle.two_way.specs.Quick.{ruled, turned, olderRule, quickTest}
 
 pub record Separates (n : ℕ) (E : Edges) (K L R : Set) : Type 0 where
   pub whole : (i : ℕ) → i < n → (K i || (L i || R i)) ≡ true
@@ -31,6 +33,16 @@ Separable n E k = (K : Set) × (L : Set) × (R : Set) × Separates n E K L R × 
 pub record LeastAway (n : ℕ) (E : Edges) (k : ℕ) : Type 0 where
   pub fewest : (K L R : Set) → Separates n E K L R → k ≤ count n K
   pub reached : Separable n E k ⊎ (((K L R : Set) → Separates n E K L R → ⊥) × (k ≡ n - 1))
+
+abbrev pub TwoWay : Edges → Type 0
+TwoWay E = (u v : ℕ) → E u v ≡ true → E v u ≡ true
+
+-- of the cards that are read it takes those whose links all have a return, and answers by the rule for their n and f; the others are 15
+abbrev pub Takes : Type 0
+Takes =
+    (s : List ℕ) (n f : ℕ) (links : Links) → readCard s ≡ network n f links
+    → (TwoWay (linkedIn links) → (least : ℕ) × (quickTest s ≡ ruled (olderRule n f least) n least))
+    × ((TwoWay (linkedIn links) → ⊥) → quickTest s ≡ turned (call 15))
 
 -- the number that is answered is the least one
 abbrev pub Least : Type 0

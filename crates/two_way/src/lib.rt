@@ -9,17 +9,15 @@ use refusal::Refusal;
 ghost use mathlib.Core.Path.{_≡_};
 ghost use mathlib.Core.Bool.{false};
 ghost use Prim.Native.Nat.{ℕ, _^_, _≤_, _<_};
-ghost use lib.ListN.{getD};
 ghost use Rattle.sets.specs.Sets.{full};
 ghost use Rattle.network.specs.Links.{Links};
-ghost use Rattle.network.specs.Sources.{SourcesOf};
-ghost use Rattle.network.specs.Weak.{Tables};
+ghost use Rattle.network.specs.Card.{network};
+ghost use Rattle.network.specs.Sources.{SourceRows, Tables};
 ghost use Rattle.network.specs.Proper.{Proper};
 ghost use Rattle.two_way.specs.Separation.{oneWay, connectivity};
 ghost use Rattle.two_way.specs.Scan.{unlike, everyLinked, cutOff};
 ghost use Rattle.two_way.specs.Quick.{olderRule, quickOf, quickTest};
 ghost use Rattle.two_way.specs.Answers.{quickAnswerOf};
-ghost use Rattle.network.specs.Card.{network};
 
 pub enum QuickAnswer {
     // Whether the rule holds, n, and the least number of servers to be taken away.
@@ -41,14 +39,14 @@ fn unlike(rows: [u8; 8], sources: [u8; 8]) -> bool
 }
 
 // Every two servers are linked: with itself, each has all servers for its sources.
-fn every_linked(n: u8, rows: [u8; 8]) -> bool
+fn every_linked(n: u8, sources: [u8; 8]) -> bool
     requires { ⌜ n ≤ 8 ⌝ }
-    ensures { λ r. ⌜ r ≡ everyLinked n rows ⌝ }
+    ensures { λ r. ⌜ r ≡ everyLinked n sources ⌝ }
 {
     let servers = sets::full(n);
     for v in 0..n {
         let itself = sets::single(v);
-        let all = sets::union(rows[v as usize], itself);
+        let all = sets::union(sources[v as usize], itself);
         if all != servers {
             return false;
         }
@@ -79,22 +77,23 @@ fn cut_off(
 
 // The least number of servers to be taken away before the rest falls apart. Of the two parts into
 // which it falls one does not have the last server, so the sets of the other servers are enough.
-fn least_taken(n: u8, rows: [u8; 8]) -> u8
+fn least_taken(n: u8, sources: [u8; 8]) -> u8
     requires { ⌜ 2 ≤ n × n ≤ 8 ⌝ }
-    ensures { λ r. ⌜ ((f : ℕ) (links : Links) → Proper n f links → oneWay n links ≡ false → ((v : ℕ) → v < 8 → SourcesOf links v 8 (getD rows v 0)) → r ≡ connectivity n links) ⌝ }
+    ensures { λ r. ⌜ ((f : ℕ) (links : Links) → Proper n f links → oneWay n links ≡ false → SourceRows links sources → r ≡ connectivity n links) ⌝ }
 {
     let most = n - 1;
-    if every_linked(n, rows) {
+    if every_linked(n, sources) {
         return most;
     }
-    let lower = sources::lower_table(rows);
-    let upper = sources::upper_table(rows);
+    let lower = sources::lower_table(sources);
+    let upper = sources::upper_table(sources);
     let sizes = sets::sizes();
     let servers = sets::full(n);
     let half = servers / 2 + 1;
     let mut least = most;
     for part in 1..half {
         let taken = cut_off(&sizes, &lower, &upper, servers, most, part);
+        // no number is less
         if taken == 0 {
             return 0;
         }

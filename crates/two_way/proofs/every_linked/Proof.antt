@@ -1,9 +1,12 @@
 -- `two_way::every_linked` meets its contract. The invariant of its loop, `Joining`: each server below v has, with itself, all servers for its sources.
 -- Assumes nothing.
+use mathlib.Core.Path.{_≡_}
 use Prim.Native.Nat.{_-_}
+use lib.ListN.{getD}
 use native.Mathlib.Omega.{arith}
 use borrow.Author.Needs.{needs}
-use Rattle.two_way.proofs.Linked.{joining-starts, joining-goes, joining-misses, joining-ends, Joining}
+use Rattle.sets.specs.Sets.{single, union, full}
+use Rattle.two_way.proofs.Linked.{all-of, with-itself, joining-starts, joining-goes, joining-misses, joining-ends, Joining}
 use Rattle.two_way.proofs.every_linked.Statement.{statement}
 use Rattle.two_way.proofs.every_linked.Tie as tie
 use Rattle.two_way.proofs.every_linked.Reads as reads
@@ -13,10 +16,18 @@ use Rattle.sets.proofs.single.Reads as single-reads
 use Rattle.sets.proofs.union.Reads as union-reads
 
 abbrev Inv-loop : tie.InvT-loop
-Inv-loop n rows servers v₀ v = Joining n rows v
+Inv-loop n sources servers v₀ v = Joining n sources v
 
 abbrev μ-loop : tie.MeasureT-loop
-μ-loop n rows servers v₀ v = n - v
+μ-loop n sources servers v₀ v = n - v
+
+-- the sources of v are worked out, with v itself
+servers : (c : tie.After-union Inv-loop μ-loop) → c .before .before .before .before .full .result ≡ full (c .before .before .before .before .before .args .n)
+servers c = all-of _ _ (omega arith) (c .before .before .before .before .full .ensures)
+
+with-v : (c : tie.After-union Inv-loop μ-loop)
+    → c .union .result ≡ union (getD (c .before .before .before .before .before .args .t2) (c .before .before .before .loop .v) 0) (single (c .before .before .before .loop .v))
+with-v c = with-itself _ _ _ _ (c .before .single .ensures) (c .union .ensures)
 
 full-requires : tie.Need-full-requires Inv-loop μ-loop
 full-requires c κs = search needs
@@ -37,7 +48,7 @@ union-requires : tie.Need-union-requires Inv-loop μ-loop
 union-requires c κs = search needs
 
 returns : tie.Need-returns Inv-loop μ-loop
-returns c = joining-misses _ _ _ (c .before .before .before .before .loop .inv) (omega arith) _ _ _ (c .before .before .before .before .before .full .ensures) (c .before .before .single .ensures) (c .before .union .ensures) (omega arith) (c .if1 .taken)
+returns c = joining-misses _ _ _ (c .before .before .before .before .loop .inv) _ _ (servers (c .before)) (with-v (c .before)) (omega arith) (c .if1 .taken)
 
 add-v : tie.Need-add-v Inv-loop μ-loop
 add-v c = search needs
@@ -46,7 +57,7 @@ loop-less : tie.Need-loop-less Inv-loop μ-loop
 loop-less c = search needs
 
 loop-again : tie.Need-loop-again Inv-loop μ-loop
-loop-again c = joining-goes _ _ _ (c .before .before .before .before .loop .inv) (omega arith) _ _ _ (c .before .before .before .before .before .full .ensures) (c .before .before .single .ensures) (c .before .union .ensures) (omega arith) (c .if1 .left)
+loop-again c = joining-goes _ _ _ (c .before .before .before .before .loop .inv) _ _ (servers (c .before)) (with-v (c .before)) (omega arith) (c .if1 .left)
 
 returns-2 : tie.Need-returns-2 Inv-loop μ-loop
 returns-2 c = joining-ends _ _ _ (c .before .loop .inv) (c .loop-test .left)

@@ -2,13 +2,11 @@
 -- nothing.
 use mathlib.Core.Path.{refl, sym, _∙_}
 use mathlib.Core.Logic.{⊎-elim}
-use Prim.Native.Nat.{ℕ, _-_, _<_}
-use lib.ListN.{getD}
+use Prim.Native.Nat.{ℕ, _-_}
 use native.Mathlib.Omega.{arith}
 use borrow.Author.Needs.{needs}
 use Rattle.network.specs.Links.{Links}
-use Rattle.network.specs.Sources.{SourcesOf}
-use Rattle.network.specs.Weak.{Tables}
+use Rattle.network.specs.Sources.{SourceRows, Tables}
 use Rattle.network.specs.Proper.{Proper}
 use Rattle.network.proofs.SourceRows.{halves-of}
 use Rattle.two_way.proofs.Returns.{two-way}
@@ -34,12 +32,12 @@ abbrev μ-loop : tie.MeasureT-loop
 -- the tables are made: they are those of the links
 tables : (c : tie.After-full Inv-loop μ-loop) →
     let a = c .before .before .before .before .before .before .args in
-    (f : ℕ) (links : Links) → Proper (a .n) f links → ((v : ℕ) → v < 8 → SourcesOf links v 8 (getD (a .rows) v 0))
+    (f : ℕ) (links : Links) → Proper (a .n) f links → SourceRows links (a .sources)
     → Tables (a .n) links (c .before .sizes .result) (c .before .before .before .lower-table .result) (c .before .before .upper-table .result)
 tables c f links p so =
     record {
       sized = c .before .sizes .ensures;
-      halves = halves-of _ f links (c .before .before .before .before .before .before .args .rows) _ _ p so (c .before .before .before .lower-table .ensures) (c .before .before .upper-table .ensures);
+      halves = halves-of _ f links (c .before .before .before .before .before .before .args .sources) _ _ p so (c .before .before .before .lower-table .ensures) (c .before .before .upper-table .ensures);
     }
 
 sub-most : tie.Need-sub-most Inv-loop μ-loop

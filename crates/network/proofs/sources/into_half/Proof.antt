@@ -1,7 +1,6 @@
--- `network::sources::into_half` meets its contract. The union of four rows, each kept or not (`joined-four`). Assumes nothing.
-use Prim.Native.Nat.{_-_}
+-- `network::sources::into_half` meets its contract. The union of four rows, each kept or not (`half-made`). Assumes nothing.
 use borrow.Author.Needs.{needs}
-use Rattle.network.proofs.SourceRows.{joined-four}
+use Rattle.network.proofs.SourceRows.{half-made}
 use Rattle.network.proofs.sources.into_half.Statement.{statement}
 use Rattle.network.proofs.sources.into_half.Tie as tie
 use Rattle.network.proofs.sources.into_half.Reads as reads
@@ -53,7 +52,7 @@ union-requires-3 c κs = search needs
 
 returns : tie.Need-returns
 returns c = let a = c .before .before .before .before .before .before .before .args in
-    joined-four (a .t1) (a .first) (a .x) _ _ _ _ _ _ _ (c .before .before .before .before .before .before .kept .ensures) (c .before .before .before .before .before .kept2 .ensures) (c .before .before .before .before .kept3 .ensures) (c .before .before .before .kept4 .ensures)
+    half-made (a .t1) (a .first) (a .x) _ _ _ _ _ _ _ (c .before .before .before .before .before .before .kept .ensures) (c .before .before .before .before .before .kept2 .ensures) (c .before .before .before .before .kept3 .ensures) (c .before .before .before .kept4 .ensures)
     (c .before .before .union .ensures) (c .before .union2 .ensures) (c .union3 .ensures)
 
 pub into-half-spec : {M : Type 1} → statement M

@@ -1,6 +1,5 @@
 -- `network::sources::kept` meets its contract. By the test for membership. Assumes nothing.
 use mathlib.Core.Path.{sym, _∙_}
-use Prim.Native.Nat.{_-_}
 use borrow.Author.Needs.{needs}
 use Rattle.network.proofs.sources.kept.Statement.{statement}
 use Rattle.network.proofs.sources.kept.Tie as tie

@@ -1,11 +1,11 @@
 -- `network::sources::sources` meets its contract. The invariant of its loop: the row holds the servers below u with a link to v. The measure is what is
 -- left of the eight. Assumes nothing.
-use mathlib.Core.Path.{_≡_, _∙_}
+use mathlib.Core.Path.{_∙_}
 use mathlib.Core.Logic.{⊎-elim}
 use Prim.Native.Nat.{_-_, _≤_}
 use native.Mathlib.Omega.{arith}
 use borrow.Author.Needs.{needs}
-use Rattle.network.proofs.SourceRows.{to-starts, to-joins, to-passes}
+use Rattle.network.proofs.SourceRows.{to-starts, to-joins, to-passes, to-ends}
 use Rattle.network.specs.Sources.{SourcesOf}
 use Rattle.network.proofs.sources.sources.Statement.{statement}
 use Rattle.network.proofs.sources.sources.Tie as tie
@@ -57,7 +57,7 @@ loop-again c = let a = c .before .before .before .before .args in
     )
 
 returns : tie.Need-returns Inv-loop μ-loop
-returns c = let e : c .before .loop .u ≡ 8 = omega arith in rw e at (c .before .loop .inv .1)
+returns c = to-ends _ _ _ _ (c .before .loop .inv .1) (omega arith)
 
 pub sources-spec : {M : Type 1} → statement M
 sources-spec =

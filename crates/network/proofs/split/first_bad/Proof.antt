@@ -7,7 +7,7 @@ use Prim.Native.Nat.{_-_}
 use borrow.Author.Needs.{needs}
 use Rattle.network.specs.declared.split.SplitAnswer.{SplitAnswer}
 use Rattle.network.specs.Answers.{splitAnswerOf}
-use Rattle.network.specs.Weak.{Tables}
+use Rattle.network.specs.Sources.{Tables}
 use Rattle.network.proofs.SourceRows.{halves-of}
 use Rattle.network.proofs.Scans.{Scan, Sides, Splits, limit-of, scan-starts, scan-ends, scan-past, sides-start, sides-end, sides-past, splits-start, splits-end, splits-past, splits-hit, sides-fall, splits-fall}
 use Rattle.network.proofs.split.first_bad.Statement.{statement}

@@ -2,7 +2,7 @@
 -- those outside s and F (`size-outside`). Assumes nothing.
 use lib.Dec.{leb}
 use mathlib.Core.Path.{ap, _∙_}
-use Prim.Native.Nat.{ℕ, _-_}
+use Prim.Native.Nat.{ℕ}
 use borrow.Author.Needs.{needs}
 use Rattle.network.proofs.SourceRows.{halves-into}
 use Rattle.network.proofs.Weakness.{size-outside}
