@@ -11,9 +11,10 @@
  *
  * It also holds each answer to what the header promises: no row of a card has a server that is not
  * there or its own, a refused card's are empty, a printed card has the links of its rows in order, is
- * read as the same rows and stays as it is when printed again, no lent byte past what is written is
- * changed, a refused call changes none, and the bits of the servers that are not faulty are equal and
- * some such server's input.
+ * read as the same rows and stays as it is when printed again, the quick test answers exactly the cards
+ * whose links all have a return, by its numbers and as the split test does, no lent byte past what is
+ * written is changed, a refused call changes none, and the bits of the servers that are not faulty are
+ * equal and some such server's input.
  */
 #include "agreement.h"
 

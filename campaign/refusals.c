@@ -337,7 +337,7 @@ static void prints(void)
     printed("a card without links", clean, clean);
 }
 
-/* Two-way networks, where the rule holds and where one of its numbers falls short, and a link
+/* Two-way networks, where the rule holds, where n, the other number and both fall short, and a link
    without a return. */
 static void quick_tests(void)
 {
@@ -346,6 +346,7 @@ static void quick_tests(void)
     const uint64_t apart[4] = {AGREEMENT_ANSWERED, 0, 2, 0};
     const uint64_t four[4] = {AGREEMENT_ANSWERED, 1, 4, 3};
     const uint64_t three[4] = {AGREEMENT_ANSWERED, 0, 3, 2};
+    const uint64_t six[4] = {AGREEMENT_ANSWERED, 0, 6, 5};
     quick_test("three servers in a row",
                LIST(HEAD, 3, 0, LINK, 0, 1, LINK, 1, 0, LINK, 1, 2, LINK, 2, 1, CARD_END), row);
     quick_test("three servers in a row, one return missing",
@@ -353,6 +354,7 @@ static void quick_tests(void)
     quick_test("no links", LIST(HEAD, 2, 0, CARD_END), apart);
     quick_test("four servers with all links", complete_card(4, 1), four);
     quick_test("three servers with all links", complete_card(3, 1), three);
+    quick_test("six servers with all links", complete_card(6, 2), six);
 }
 
 /* Two servers with a link from 0 to 1, the smallest site. */

@@ -372,8 +372,10 @@ mod tests {
         };
         assert_eq!(read_card(&P1), Ok(network));
         assert_eq!(split_test(&P1), Ok(None));
+        assert_eq!(quick_test(&P1), Err(ONE_WAY));
         assert_eq!(read_card(&[]), Err(card_cut(0)));
         assert_eq!(split_test(&[]), Err(card_cut(0)));
+        assert_eq!(quick_test(&[]), Err(card_cut(0)));
         assert_eq!(check_plan(&[], &[]), Err(card_cut(0)));
     }
 
@@ -384,6 +386,21 @@ mod tests {
     const SHORT_BUFFER: Refusal = Refusal::Call {
         ground: CallGround::Buffer,
     };
+    const ONE_WAY: Refusal = Refusal::Call {
+        ground: CallGround::OneWay,
+    };
+
+    #[test]
+    fn two_way_networks() {
+        // Two servers without links, with a link and its return, and with one of them twice.
+        let apart = [1, 2, 0, 3];
+        let linked = [1, 2, 0, 2, 0, 1, 2, 1, 0, 3];
+        let again = [1, 2, 0, 2, 0, 1, 2, 0, 1, 3];
+        let answer = |holds, least| Ok(Quick { holds, n: 2, least });
+        assert_eq!(quick_test(&apart), answer(false, 0));
+        assert_eq!(quick_test(&linked), answer(true, 1));
+        assert_eq!(quick_test(&again), Err(ONE_WAY));
+    }
 
     /// Prints into so many of sixteen bytes; the answer, and all sixteen.
     fn printed(card: &[u8], length: usize) -> (Result<usize, Refusal>, [u8; 16]) {

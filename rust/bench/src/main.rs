@@ -85,9 +85,10 @@ fn beside_reference(
         );
     }
     println!();
-    // Both are the library's. The quick test is to take at most twice the split test's time.
+    // Both are the library's. Where no split is bad the split test goes through all of them, and
+    // the quick test is to take at most twice its time; where there is an early one it stops there.
     columns("quick test beside split test", "quick", "split");
-    for case in quicks::good_networks() {
+    for case in quicks.iter().filter(|case| case.is_answered()) {
         row(
             case.name,
             || agreement::quick_test(black_box(&case.card)),

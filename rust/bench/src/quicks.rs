@@ -14,6 +14,10 @@ pub struct Case {
 }
 
 impl Case {
+    pub fn is_answered(&self) -> bool {
+        self.answer.is_ok()
+    }
+
     /// Times of wrong answers would be worth nothing.
     pub fn assert_answers(&self) {
         let library = converted::quick(agreement::quick_test(&self.card));
@@ -24,8 +28,17 @@ impl Case {
 }
 
 pub fn cases() -> Vec<Case> {
-    let mut cases = Vec::from(good_networks());
-    cases.extend([
+    vec![
+        Case {
+            name: "complete network, 56 links",
+            card: complete_card(N, F),
+            answer: answered(true, 7),
+        },
+        Case {
+            name: "sparse good network, 40 links",
+            card: in_a_ring(&[1, 2, 4]),
+            answer: answered(true, 5),
+        },
         Case {
             name: "one pair not linked, 54 links",
             card: one_pair_not_linked(),
@@ -58,24 +71,6 @@ pub fn cases() -> Vec<Case> {
                 number: 5,
                 place: 87,
             }),
-        },
-    ]);
-    cases
-}
-
-/// Two networks without a bad split, so that the split test goes through all splits: the
-/// one with the most links, and one with the fewest.
-pub fn good_networks() -> [Case; 2] {
-    [
-        Case {
-            name: "complete network, 56 links",
-            card: complete_card(N, F),
-            answer: answered(true, 7),
-        },
-        Case {
-            name: "sparse good network, 40 links",
-            card: in_a_ring(&[1, 2, 4]),
-            answer: answered(true, 5),
         },
     ]
 }

@@ -1,6 +1,6 @@
 //! The program as an installer runs it: what it prints, and its status.
 
-use generate::{card_of, complete_card, network_card, with_twins, Rng};
+use generate::{all_pairs, card_of, complete_card, network_card, two_way_card_of, with_twins, Rng};
 use std::fs;
 use std::path::{Path, PathBuf};
 use std::process::{Command, Output};
@@ -384,15 +384,13 @@ fn shore_is_two_regions_with_two_more_links_each_way() {
     let (shore, regions) = (links("shore"), links("two-regions"));
     assert!(regions.iter().all(|link| shore.contains(link)));
     assert_eq!(shore.len(), regions.len() + 4);
-    let picture = out(&["picture", &example("shore")], ANSWERED);
-    assert_eq!(marked(&picture), 4);
 }
 
-/// The card of a site with these links and their returns.
-fn two_way_card(n: u8, f: u8, pairs: &[(u8, u8)]) -> Vec<u8> {
-    let both_ways = |&(u, v)| [(u, v), (v, u)];
-    let links: Vec<(u8, u8)> = pairs.iter().flat_map(both_ways).collect();
-    card_of(n, f, &links)
+#[test]
+fn the_picture_of_shore_marks_the_offices_to_take_away() {
+    let picture = out(&["picture", &example("shore")], ANSWERED);
+    // One letter in the legend.
+    assert_eq!(marked(&picture), 3 + 1);
 }
 
 /// What `explain` says of a card alone, and the picture of it.
@@ -447,7 +445,7 @@ fn two_way_sites_by_the_older_rule() {
     assert_eq!(marked(&picture), 0);
 
     // Both fall short.
-    let (explained, _) = told(&two_way_card(3, 1, &[(0, 1), (1, 2)]), true);
+    let (explained, _) = told(&two_way_card_of(3, 1, &[(0, 1), (1, 2)]), true);
     assert!(
         explained.starts_with(
             "3 offices, at most 1 may fail, 4 links\n\
@@ -461,7 +459,7 @@ fn two_way_sites_by_the_older_rule() {
     );
 
     // Enough offices, and a ring is cut at two places. The picture has the bad split alone.
-    let ring = two_way_card(5, 1, &[(0, 1), (1, 2), (2, 3), (3, 4), (4, 0)]);
+    let ring = two_way_card_of(5, 1, &[(0, 1), (1, 2), (2, 3), (3, 4), (4, 0)]);
     let (explained, picture) = told(&ring, true);
     assert!(
         explained.starts_with(
@@ -477,7 +475,7 @@ fn two_way_sites_by_the_older_rule() {
     assert_eq!(marked(&picture), 0);
 
     // Where none may fail a row will do, and its picture says where it can be cut.
-    let (explained, picture) = told(&two_way_card(3, 0, &[(0, 1), (1, 2)]), false);
+    let (explained, picture) = told(&two_way_card_of(3, 0, &[(0, 1), (1, 2)]), false);
     assert_eq!(
         explained,
         "3 offices, none may fail, 4 links\n\
@@ -489,7 +487,7 @@ fn two_way_sites_by_the_older_rule() {
     assert_eq!(marked(&picture), 2);
 
     // No links at all.
-    let (explained, _) = told(&two_way_card(4, 1, &[]), true);
+    let (explained, _) = told(&two_way_card_of(4, 1, &[]), true);
     assert!(
         explained.contains("\n  the offices are apart as they are: office 0 from offices 1 2 3\n"),
         "{explained}"
@@ -502,10 +500,10 @@ fn the_older_rule_is_told_exactly_of_two_way_sites_and_holds_without_a_bad_split
     let mut seen = [0; 3];
     for round in 0..90 {
         let n = 2 + (round % 7) as u8;
-        let mut links = generate::all_links(n);
-        links.retain(|(u, v)| u < v && rng.below(6) > 0);
+        let mut pairs = all_pairs(n);
+        pairs.retain(|_| rng.below(6) > 0);
         let f = (round % 3) as u8;
-        let card = two_way_card(n, f, &links);
+        let card = two_way_card_of(n, f, &pairs);
         let good = agreement::split_test(&card) == Ok(None);
         let (explained, picture) = told(&card, !good);
         let says = |words: &str| explained.contains(words);
@@ -513,7 +511,7 @@ fn the_older_rule_is_told_exactly_of_two_way_sites_and_holds_without_a_bad_split
         assert_eq!(says(": the rule holds\n"), good, "{explained}");
         assert_eq!(says(": the rule fails, as "), !good, "{explained}");
         let least = agreement::quick_test(&card).expect("two-way").least;
-        let all_links = links.len() == generate::all_links(n).len() / 2;
+        let all_links = pairs.len() == all_pairs(n).len();
         let letters = match good && !all_links {
             true => usize::from(least) + 1,
             false => 0,
@@ -522,7 +520,7 @@ fn the_older_rule_is_told_exactly_of_two_way_sites_and_holds_without_a_bad_split
         seen[usize::from(good) + usize::from(letters > 0)] += 1;
 
         // Without one of the returns nothing is said of the rule, and nothing is taken away.
-        let Some(&(u, v)) = links.first() else {
+        let Some(&(u, v)) = pairs.first() else {
             continue;
         };
         let network = agreement::read_card(&card).expect("a sound card");

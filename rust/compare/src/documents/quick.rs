@@ -96,7 +96,7 @@ pub fn stated(documents: &Documents) -> Held {
         format!("without which the rest falls apart; {apart} if the network is apart as it is."),
         format!("and after that {one_way}, where some link has no return."),
         format!(
-            "Four servers in a ring, f 0: the rule asks for {} and {}, and has {} and {}.",
+            "Four servers in a ring, f 0: the rule asks for {} and {}, and the ring has {} and {}.",
             // With no fault the rule asks for what is left of its formulas.
             servers.replace("3f+", ""),
             away.replace("2f+", ""),
@@ -118,7 +118,7 @@ pub fn stated(documents: &Documents) -> Held {
     ])?;
     documents.theorems.says_all(&[
         format!("n and the least number, or the refusal, the card's, then {one_way}"),
-        format!("with `quickOf`, which refuses {one_way} by `oneWay`"),
+        format!("by the rule for their n and f, and refuses {one_way} for the others"),
         format!("the same with a return missing, which is {one_way},"),
     ])
 }
