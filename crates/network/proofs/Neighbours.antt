@@ -10,6 +10,7 @@ use Prim.Native.Nat.{ℕ, zero, suc, _<_}
 use native.Mathlib.Omega.{arith}
 use Rattle.facts.proofs.Bools.{cases, clash, is-false, or-cases}
 use Rattle.sets.specs.Sets.{Set, In, Out}
+use Rattle.sets.proofs.Counts.{before-last}
 use Rattle.network.specs.Split.{someBelow}
 
 pub someBelow-same : (n : ℕ) (p q : Set) → ((i : ℕ) → i < n → p i ≡ q i) → someBelow n p ≡ someBelow n q
@@ -35,10 +36,7 @@ some-of zero p i k e = absurd (omega arith)
 some-of (suc n) p i k e =
     cases (p n)
     (λ x. cc)
-    (λ x. let ih = some-of n p i (earlier n p i k e x) e in cc)
-  where
-    earlier : (n : ℕ) (p : Set) (i : ℕ) → i < suc n → In p i → p n ≡ false → i < n
-    earlier n p i k e x = let other : i ≡ n → ⊥ = λ q. clash (p n) (rw q at e) x in omega arith
+    (λ x. let ih = some-of n p i (before-last n p i k e x) e in cc)
 
 pub none-at : (n : ℕ) (p : Set) → someBelow n p ≡ false → (i : ℕ) → i < n → Out p i
 none-at n p e i k = is-false (p i) (λ h. clash (someBelow n p) (some-of n p i k h) e)

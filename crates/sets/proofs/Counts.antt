@@ -1,6 +1,7 @@
 -- Counts of the servers below n in a test, and sizes of sets.
 --     count-same    tests that agree below n have one count
 --     count-mono    a subset has no larger count
+--     before-last   a member below n + 1 is below n, where n is none
 --     count-none    a count of nothing; count-zero the other way; count-some for a member
 --     count-beyond  servers from n on that are not in the test do not count
 --     count-or      the count of a union and a meet; count-apart of a union of sets that are apart; count-all of all servers
@@ -45,16 +46,17 @@ count-none (suc n) p h =
     let e = h n (omega arith) in
     cc
 
+-- a member below n + 1 is below n, where n is none
+pub before-last : (n : ℕ) (p : Set) (i : ℕ) → i < suc n → In p i → p n ≡ false → i < n
+before-last n p i k e x = let other : i ≡ n → ⊥ = λ q. clash (p n) (rw q at e) x in omega arith
+
 pub count-some : (n : ℕ) (p : Set) (i : ℕ) → i < n → In p i → 0 < count n p
 unfolding count
 count-some zero p i k e = absurd (omega arith)
 count-some (suc n) p i k e =
     cases (p n)
     (λ x. rw x (omega arith))
-    (λ x. rw x (count-some n p i (earlier n p i k e x) e))
-  where
-    earlier : (n : ℕ) (p : Set) (i : ℕ) → i < suc n → In p i → p n ≡ false → i < n
-    earlier n p i k e x = let other : i ≡ n → ⊥ = λ q. clash (p n) (rw q at e) x in omega arith
+    (λ x. rw x (count-some n p i (before-last n p i k e x) e))
 
 pub count-zero : (n : ℕ) (p : Set) → count n p ≡ 0 → (i : ℕ) → i < n → Out p i
 count-zero n p z i k = is-false (p i) (λ e. let s = count-some n p i k e in omega arith)

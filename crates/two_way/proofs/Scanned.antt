@@ -20,6 +20,7 @@ use Rattle.network.specs.Sources.{Tables}
 use Rattle.two_way.specs.Separation.{others, separable, connectivity}
 use Rattle.two_way.specs.Scan.{neighbours, cutOff}
 use Rattle.two_way.proofs.Parts.{parts-separable, separable-found, connectivity-is}
+use Rattle.two_way.proofs.Linked.{all-of}
 use Rattle.two_way.proofs.Around.{around-small, around-parts, low-part}
 
 -- each link has a return
@@ -92,8 +93,7 @@ half-of (suc m) servers half two e h = let p = pow-double m in let q = pow-pos m
 module _ (n : ℕ) (sizes lower upper : List ℕ) (servers half most : ℕ) where
   pub scan-starts : 2 ≤ n → n ≤ 8 → servers ≡ full (min n 8) → half ≡ servers / 2 + 1 → most ≡ n - 1 → Scan n sizes lower upper servers half most most 1
   scan-starts two few e h m =
-      let w : min n 8 ≡ n = omega arith in
-      let all : servers ≡ full n = e ∙ ap full w in
+      let all = all-of n servers few e in
       let double = half-of n servers half two all h in
       record {
         two = two;
