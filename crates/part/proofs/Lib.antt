@@ -1,0 +1,2 @@
+-- Turned  the turns of a plan are the run
+pub mod Turned

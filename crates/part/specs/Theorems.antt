@@ -1,0 +1,79 @@
+-- What is proved of servers that are stepped side by side, for every card, every plan accepted for it, inputs of 0 and 1, every faulty set and every
+-- message table, the empty one too.
+--     Turned      the turns of a plan, taken in the run's own words, are the run
+--     StepByStep  after every kind of every block the v and t of each server are those that the run's steps give
+--     Decides     at the end the ask of each server gives one value, the v that the run leaves it with, as often as it is called, and opens nothing;
+--                 for a sound server that is its byte in the lent buffer of the run
+--     Demand3     so what the sound servers show is one bit, and some sound server's input
+use mathlib.Core.Path.{_≡_}
+use mathlib.Core.Bool.{true}
+use mathlib.Core.List.{List, [], _∷_}
+use Prim.Native.Nat.{ℕ, _≤_, _<_}
+use lib.ListN.{length, getD, take, replicate}
+use Rattle.sets.specs.Sets.{Out, has}
+use Rattle.network.specs.Links.{Links}
+use Rattle.network.specs.Card.{network, readCard}
+use Rattle.plan.specs.Check.{totals}
+use Rattle.rules.specs.Blocks.{Block, decodePlan}
+use Rattle.rules.specs.Theorems.{Accepted}
+use Rattle.steps.specs.Steps.{Values, held, valuesFrom, values, runBlocks}
+use Rattle.steps.specs.Run.{areBits, runPlan, lentAfter}
+use Rattle.steps.specs.Demand.{Agreed}
+use Rattle.part.specs.State.{State}
+use Rattle.part.specs.Calls.{Asked, sends, askCall}
+use Rattle.part.specs.Beside.{turns, besideOver, startBeside, shownBeside, runOver}
+
+-- the values that a run starts with
+abbrev pub startValues : List ℕ → Values
+startValues inputs = record { v = values (held inputs); t = replicate 8 2 }
+
+abbrev pub Turned : Type 0
+Turned =
+    (n X : ℕ) (table : List ℕ) (number : ℕ) (bs : List Block) (s : Values)
+    → runOver n X table (turns number bs) s ≡ runBlocks n X table number bs s
+
+-- server i holds the values of the run, and has no ask open
+pub record Follows (s : State) (i : ℕ) (run : Values) : Type 0 where
+  pub v : s .v ≡ held (run .v) i
+  pub t : s .t ≡ held (run .t) i
+  pub none : s .asked ≡ 0
+
+-- after any number m of turns
+abbrev pub StepByStep : Type 0
+StepByStep =
+    (card plan inputs : List ℕ) (X : ℕ) (table : List ℕ) (n f : ℕ) (links : Links) → readCard card ≡ network n f links → Accepted card plan
+    → length inputs ≡ n → areBits inputs ≡ true
+    → (m i : ℕ) → i < n
+    → Follows (besideOver card plan X table (take m (turns 0 (decodePlan n f plan))) (startBeside card plan inputs) i) i
+      (runOver n X table (take m (turns 0 (decodePlan n f plan))) (startValues inputs))
+
+-- the state of server i after the last block
+abbrev pub ending : List ℕ → List ℕ → List ℕ → ℕ → List ℕ → ℕ → ℕ → ℕ → State
+ending card plan inputs X table n f i = besideOver card plan X table (turns 0 (decodePlan n f plan)) (startBeside card plan inputs) i
+
+-- at the end, whatever is lent, if it has room for one byte
+abbrev pub Decides : Type 0
+Decides =
+    (card plan inputs : List ℕ) (X : ℕ) (table : List ℕ) (n f : ℕ) (links : Links) → readCard card ≡ network n f links → Accepted card plan
+    → length inputs ≡ n → areBits inputs ≡ true
+    → (i : ℕ) → i < n → (lent : List ℕ) → 1 ≤ length lent
+    → askCall card plan i (ending card plan inputs X table n f i) lent
+      ≡ sends (ending card plan inputs X table n f i) (held (runBlocks n X table 0 (decodePlan n f plan) (startValues inputs) .v) i ∷ [])
+
+-- for each call to run that is answered: what a sound server shows is its byte in the lent buffer of the run
+abbrev pub ShowsTheRun : Type 0
+ShowsTheRun =
+    (card plan inputs : List ℕ) (X : ℕ) (table lent : List ℕ) (n f : ℕ) (links : Links) → readCard card ≡ network n f links
+    → (blocks carriages : ℕ) → runPlan card plan inputs X lent ≡ totals blocks carriages
+    → (i : ℕ) → i < n → Out (has X) i
+    → shownBeside n f card plan inputs X table i ≡ getD (lentAfter card plan inputs X table lent) i 0 ∷ []
+
+-- the bytes that the n servers show
+abbrev pub allShown : ℕ → ℕ → List ℕ → List ℕ → List ℕ → ℕ → List ℕ → List ℕ
+allShown n f card plan inputs X table = valuesFrom n 0 (λ (i : ℕ). getD (shownBeside n f card plan inputs X table i) 0 2)
+
+abbrev pub Demand3 : Type 0
+Demand3 =
+    (card plan inputs : List ℕ) (X : ℕ) (table lent : List ℕ) (n f : ℕ) (links : Links) → readCard card ≡ network n f links
+    → (blocks carriages : ℕ) → runPlan card plan inputs X lent ≡ totals blocks carriages
+    → Agreed n X inputs (allShown n f card plan inputs X table)
