@@ -28,9 +28,11 @@ of-call CallGround.Inputs = refl
 of-call CallGround.FaultSet = refl
 of-call CallGround.Buffer = refl
 of-call CallGround.OneWay = refl
+of-call CallGround.OutOfTurn = refl
 
 pub call-place : (g : CallGround) → 0 ≡ placeOf (callRefusal g)
 call-place CallGround.Inputs = refl
 call-place CallGround.FaultSet = refl
 call-place CallGround.Buffer = refl
 call-place CallGround.OneWay = refl
+call-place CallGround.OutOfTurn = refl

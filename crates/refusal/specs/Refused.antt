@@ -34,6 +34,7 @@ callRefusal CallGround.Inputs = call 12
 callRefusal CallGround.FaultSet = call 13
 callRefusal CallGround.Buffer = call 14
 callRefusal CallGround.OneWay = call 15
+callRefusal CallGround.OutOfTurn = call 16
 
 abbrev pub refusalOf : Refusal → Refused
 refusalOf (Card g) = cardRefusal g

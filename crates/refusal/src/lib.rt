@@ -44,6 +44,8 @@ pub enum CallGround {
     Buffer,
     // Some link has no return.
     OneWay,
+    // An ask while one is open, or a commit with none open.
+    OutOfTurn,
 }
 
 pub enum Refusal {
@@ -98,10 +100,11 @@ fn call_number(g: CallGround) -> u8
         CallGround::FaultSet => 13,
         CallGround::Buffer => 14,
         CallGround::OneWay => 15,
+        CallGround::OutOfTurn => 16,
     }
 }
 
-// The refusal's number, 1 to 15 without 6.
+// The refusal's number, 1 to 16 without 6.
 pub fn number(r: Refusal) -> u8
     ensures { λ m. ⌜ m ≡ numberOf (refusalOf r) ⌝ }
 {
