@@ -26,10 +26,10 @@ use Rattle.rules.proofs.Whole.{decode-length}
 use Rattle.rules.proofs.Main.{totalled}
 use Rattle.steps.specs.Steps.{held, values, runBlocks}
 use Rattle.steps.specs.Run.{checkCall, runOn, runPlan, decided, written, afterAnswer, lentAfter}
-use Rattle.run.specs.Openings.{Runnable}
+use Rattle.carriage.specs.Openings.{Runnable}
 use Rattle.run.specs.Answers.{ranOf, Answered}
 use Rattle.run.specs.declared.call.Ran.{Ran}
-use Rattle.run.proofs.Accepting.{accepted-runnable}
+use Rattle.carriage.proofs.Accepting.{accepted-runnable}
 use Rattle.steps.proofs.Decides.{demand}
 
 -- the network that the card reader's answer gives, and its accepted plan

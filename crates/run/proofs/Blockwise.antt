@@ -3,26 +3,26 @@
 --     block-runs      with it the other three steps' results make up the block's
 --     block-numbers   how many carriages the block has
 --     Along           how far the blocks are run; blocks-start, blocks-end, and blocks-turn for one block more
---     block-ready     the next block is ready to run; block-room: it ends inside the plan
+--     ready           the next block is ready to run; block-room: it ends inside the plan
 -- Assumes nothing.
 use mathlib.Core.Path.{_≡_, refl, sym, ap, _∙_}
 use mathlib.Core.List.{List, [], _∷_, _++_, map, List·Memᴰ·head, List·Memᴰ·tail}
 use Prim.Native.Nat.{ℕ, zero, suc, _+_, _-_, _*_, _≤_, _<_, min}
 use native.Mathlib.Omega.{arith}
-use lib.ListN.{length, take, drop, length-append, length-drop, length-map}
+use lib.ListN.{length, drop, length-append, length-map}
 use lib.Seq.{drop-drop}
-use Rattle.sets.specs.Sets.{minus, meet, full}
+use Rattle.sets.specs.Sets.{minus, meet, full, size, TableOf}
 use Rattle.plan.specs.Members.{members}
 use Rattle.plan.proofs.Cuts.{full-few}
-use Rattle.plan.proofs.Groups.{part-rest}
 use Rattle.rules.specs.Blocks.{Report, Block, carriageOf, reportFrom, reportCarriages, carriagesOf, decodeBlock, lengthOf, decodeBlocks}
 use Rattle.facts.specs.Lists.{Each}
 use Rattle.rules.proofs.Lists.{length-members}
 use Rattle.steps.specs.Steps.{Values, step1, gather, compare, step5, step6, runBlock, runBlocks}
 use Rattle.run.specs.Speaking.{bitsOf, worksOf}
-use Rattle.run.specs.Openings.{ReportOf, Readable, Runnable, Opens, Ready, blockAt}
-use Rattle.run.specs.declared.block.Opening.{Opening}
-use Rattle.run.proofs.Placed.{inward-long, among-long, outward-long, reports-are, reports-few, block-bytes}
+use Rattle.carriage.specs.Openings.{ReportOf, Readable, Runnable, OpensBy, Opens, Ready, blockAt}
+use Rattle.carriage.specs.declared.opening.Opening.{Opening}
+use Rattle.carriage.proofs.Placed.{inward-long, among-long, outward-long, reports-are}
+use Rattle.carriage.proofs.Blocks.{partFrom, block-ready, block-is, bytes-are, bytes-fit}
 
 -- F, A and S of the decoded block
 module _ (o : Opening) (s : List ℕ) (h : Opens (o .n) (o .f) s o) where
@@ -101,8 +101,7 @@ told-long f (r ∷ rs) h =
     let c = told-long f rs (λ q m. h q (List·Memᴰ·tail m)) in
     omega arith
 
-pub block-numbers : (o : Opening) (s : List ℕ) → Ready o s
-    → length (carriagesOf (blockAt o s)) ≡ o .inward + o .among + o .outward + o .reports * (o .f + 1)
+pub block-numbers : (o : Opening) (s : List ℕ) → Ready o s → length (carriagesOf (blockAt o s)) ≡ o .carriages
 unfolding carriagesOf
 block-numbers o s ready =
     let h = ready .opens in
@@ -118,6 +117,7 @@ block-numbers o s ready =
     let x = length-append (inward ++ among ++ outward) reports in
     let y = length-append (inward ++ among) outward in
     let z = length-append inward among in
+    let q = h .carriages in
     omega arith
 
 -- the blocks of a plan
@@ -138,10 +138,8 @@ pub record Along (n f X : ℕ) (table plan : List ℕ) (blocks : ℕ) (start : V
 
 -- the block at this place ends inside the plan, and the numbers of its carriages stay below the bytes
 pub record Room (plan : List ℕ) (at number : ℕ) (o : Opening) : Type 0 where
-  pub bytes : at + (4 + 9 * (o .inward + o .among + o .outward) + 3 * o .reports) ≤ length plan
-  pub numbers : number + (o .inward + o .among + o .outward + o .reports * (o .f + 1)) ≤ at + (4 + 9 * (o .inward + o .among + o .outward) + 3 * o .reports)
-  pub reports : o .reports ≤ 8
-  pub bound : o .f ≤ 2
+  pub bytes : at + o .bytes ≤ length plan
+  pub numbers : number + o .carriages ≤ at + o .bytes
 
 pub blocks-start : (n f X : ℕ) (table plan : List ℕ) (blocks : ℕ) (v t : List ℕ) → Runnable n f plan blocks
     → Along n f X table plan blocks (record { v = v; t = t }) 0 0 0 v t
@@ -164,62 +162,40 @@ module _ (n f X : ℕ) (table plan : List ℕ) (blocks : ℕ) (start : Values) (
   here : Readable n f (drop at plan) × Runnable n f (drop (lengthOf (decodeBlock n f (drop at plan))) (drop at plan)) (blocks - (k + 1))
   here = rw left at (along .runs)
 
-  abbrev part : List ℕ
-  part = take (length plan - at) (drop at plan)
+  module _ (few : n ≤ 8) (bound : f ≤ 2) (short : length plan ≤ 1048576) (sizes : List ℕ) (table-is : TableOf size sizes) (o : Opening)
+      (by : OpensBy sizes n f (partFrom plan at) o) (u : o .fault < 256) (q : o .quorum < 256) where
+    pub ready : Ready o (partFrom plan at)
+    ready = block-ready n f plan at few bound short (here .0) sizes table-is o by u q
 
-  -- the block's opening command is there
-  pub opening-there : 4 ≤ length part
-  unfolding lengthOf
-  opening-there = rw (part-rest plan at) (let h = here .0 .fits in omega arith)
-
-  module _ (few : n ≤ 8) (bound : f ≤ 2) (short : length plan ≤ 1048576) (o : Opening) (opens : Opens n f part o) where
-    pub block-ready : Ready o part
-    block-ready =
-        let readable : Readable n f part = rw (part-rest plan at) (here .0) in
-        record {
-          few = rw (opens .servers) few;
-          bound = rw (opens .bound) bound;
-          short = let c = ap length (part-rest plan at) in let d = length-drop at plan in omega arith;
-          opens = record { servers = refl; bound = refl; fault = opens .fault; side = opens .side; quorum = opens .quorum; inward = opens .inward; among = opens .among; outward = opens .outward; reports = opens .reports };
-          readable = rw (opens .servers, opens .bound) readable;
-        }
-
-    block-is : blockAt o part ≡ decodeBlock n f (drop at plan)
-    block-is = rw (opens .servers, opens .bound, part-rest plan at) refl
-
-    bytes-fit : at + (4 + 9 * (o .inward + o .among + o .outward) + 3 * o .reports) ≤ length plan
-    bytes-fit =
-        let a = block-bytes o part block-ready in
-        let b = block-ready .readable .fits in
-        let c = ap length (part-rest plan at) in
-        let d = length-drop at plan in
-        let e = along .inside in
+    numbers-behind : number + o .carriages ≤ at + o .bytes
+    numbers-behind =
+        let h = ready .opens in
+        let a = thrice (o .reports) (o .f) (ready .bound) in
+        let b = along .behind in
+        let c = h .bytes in
+        let d = h .carriages in
         omega arith
 
-    numbers-behind : number + (o .inward + o .among + o .outward + o .reports * (o .f + 1)) ≤ at + (4 + 9 * (o .inward + o .among + o .outward) + 3 * o .reports)
-    numbers-behind = let a = thrice (o .reports) (o .f) (block-ready .bound) in let b = along .behind in omega arith
-
     pub block-room : Room plan at number o
-    block-room = record { bytes = bytes-fit; numbers = numbers-behind; reports = reports-few o part block-ready; bound = block-ready .bound }
+    block-room = record { bytes = bytes-fit n f plan at few bound short (here .0) sizes table-is o by u q (along .inside); numbers = numbers-behind }
 
-    pub blocks-turn : (v′ t′ : List ℕ) → _≡_ {A = Values} (record { v = v′; t = t′ }) (runBlock (o .n) X table number (blockAt o part) (record { v = v; t = t }))
-        → (bytes carriages : ℕ) → bytes ≡ 4 + 9 * (o .inward + o .among + o .outward) + 3 * o .reports
-        → carriages ≡ o .inward + o .among + o .outward + o .reports * (o .f + 1)
-        → Along n f X table plan blocks start (k + 1) (at + bytes) (number + carriages) v′ t′
+    pub blocks-turn : (v′ t′ : List ℕ) → _≡_ {A = Values} (record { v = v′; t = t′ }) (runBlock (o .n) X table number (blockAt o (partFrom plan at)) (record { v = v; t = t }))
+        → Along n f X table plan blocks start (k + 1) (at + o .bytes) (number + o .carriages) v′ t′
     unfolding runBlocks decodeBlocks
-    blocks-turn v′ t′ ran bytes carriages eb ec =
+    blocks-turn v′ t′ ran =
         let b = decodeBlock n f (drop at plan) in
-        let long : lengthOf b ≡ bytes = sym (ap lengthOf block-is) ∙ block-bytes o part block-ready ∙ sym eb in
-        let many : length (carriagesOf b) ≡ carriages = sym (ap (λ (x : Block). length (carriagesOf x)) block-is) ∙ block-numbers o part block-ready ∙ sym ec in
-        let now : _≡_ {A = Values} (record { v = v′; t = t′ }) (runBlock n X table number b (record { v = v; t = t })) = ran ∙ rw (block-is, opens .servers) refl in
-        let next : drop (lengthOf b) (drop at plan) ≡ drop (at + bytes) plan = rw long (drop-drop bytes at plan) in
+        let is = block-is n f plan at few bound short (here .0) sizes table-is o by u q in
+        let long : lengthOf b ≡ o .bytes = sym (bytes-are n f plan at few bound short (here .0) sizes table-is o by u q) in
+        let many : length (carriagesOf b) ≡ o .carriages = sym (ap (λ (x : Block). length (carriagesOf x)) is) ∙ block-numbers o (partFrom plan at) ready in
+        let now : _≡_ {A = Values} (record { v = v′; t = t′ }) (runBlock n X table number b (record { v = v; t = t })) = ran ∙ rw (is, by .servers) refl in
+        let next : drop (lengthOf b) (drop at plan) ≡ drop (at + o .bytes) plan = rw long (drop-drop (o .bytes) at plan) in
         let p = sym many in
-        let q = sym next in
+        let r = sym next in
         let old : runBlocks n X table number (decodeBlocks n f (drop at plan) (suc (blocks - (k + 1)))) (record { v = v; t = t }) ≡ runBlocks n X table 0 (decodeBlocks n f plan blocks) start = rw left at (along .same) in
         record {
           below = omega arith;
-          inside = rw eb bytes-fit;
-          behind = rw (eb, ec) numbers-behind;
+          inside = block-room .bytes;
+          behind = numbers-behind;
           runs = rw next at (here .1);
-          same = (λ i. runBlocks n X table (number + p i) (decodeBlocks n f (q i) (blocks - (k + 1))) (now i)) ∙ old;
+          same = (λ i. runBlocks n X table (number + p i) (decodeBlocks n f (r i) (blocks - (k + 1))) (now i)) ∙ old;
         }

@@ -2,10 +2,7 @@
 -- Arrivals     what arrives at a server is 0, 1 or 2, and what it settles
 -- Carried      what carriages over routes bring
 -- Reported     what reports bring
--- Opened       what the opening command of a block fixes
--- Placed       where the routes and reports of a block stand in its bytes
 -- Stepped      the steps of a block on sets of servers
--- Accepting    what an accepted plan is to the code of a run
 -- Blockwise    the steps of a block and the blocks of a plan, as the code takes them
 -- Lent         the inputs and the lent buffer as bytes
 -- Calls        the grounds of a call and the lent buffer where there is none
@@ -14,10 +11,7 @@ pub mod Speaking
 pub mod Arrivals
 pub mod Carried
 pub mod Reported
-pub mod Opened
-pub mod Placed
 pub mod Stepped
-pub mod Accepting
 pub mod Blockwise
 pub mod Lent
 pub mod Calls

@@ -23,8 +23,8 @@ use Rattle.facts.specs.Lists.{Each}
 use Rattle.rules.proofs.Lists.{length-members}
 use Rattle.steps.specs.Hearing.{hit, message, brought, heard}
 use Rattle.run.specs.Speaking.{Adds, Speaks, reported}
-use Rattle.run.specs.Openings.{ReportOf}
-use Rattle.run.specs.declared.carriage.Against.{Against}
+use Rattle.carriage.specs.Openings.{ReportOf}
+use Rattle.run.specs.declared.hearing.Against.{Against}
 use Rattle.run.proofs.Speaking.{adds-none, adds-then, adds-speaks}
 
 -- the reports of one command

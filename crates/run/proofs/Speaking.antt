@@ -17,7 +17,7 @@ use Rattle.sets.specs.Sets.{has, single, union}
 use Rattle.sets.proofs.Members.{has-union, has-single, has-empty}
 use Rattle.steps.specs.Hearing.{all}
 use Rattle.run.specs.Speaking.{Adds, Speaks, against}
-use Rattle.run.specs.declared.carriage.Against.{Against}
+use Rattle.run.specs.declared.hearing.Against.{Against}
 
 or-assoc : (a b c : Bool) → ((a || b) || c) ≡ (a || (b || c))
 or-assoc true b c = refl

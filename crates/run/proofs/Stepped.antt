@@ -16,12 +16,12 @@ use Rattle.rules.specs.Blocks.{Carriage, routesAt, reportsAt, carriageOf, repor
 use Rattle.steps.specs.Hearing.{heard, all, common}
 use Rattle.steps.specs.Steps.{held, values, step1, gather, compare, step5, step6}
 use Rattle.run.specs.Speaking.{bitOf, workOf, bitsOf, worksOf, replaced, alike, settled, Speaks, against}
-use Rattle.run.specs.declared.carriage.Against.{Against}
-use Rattle.run.specs.declared.block.Opening.{Opening}
-use Rattle.run.specs.Openings.{Ready, blockAt}
+use Rattle.run.specs.declared.hearing.Against.{Against}
+use Rattle.carriage.specs.declared.opening.Opening.{Opening}
+use Rattle.carriage.specs.Openings.{Ready, blockAt}
 use Rattle.steps.proofs.Eight.{values-at, values-ext}
 use Rattle.run.proofs.Arrivals.{common-settled, heard-small, bits-small, works-small}
-use Rattle.run.proofs.Placed.{block-inward, block-among, block-outward, block-reports}
+use Rattle.carriage.proofs.Placed.{block-inward, block-among, block-outward, block-reports}
 
 -- membership of one server
 

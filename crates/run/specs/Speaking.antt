@@ -16,7 +16,7 @@ use Prim.Native.Nat.{ℕ, suc}
 use Rattle.sets.specs.Sets.{has, union, meet, minus}
 use Rattle.steps.specs.Hearing.{message, all}
 use Rattle.steps.specs.Steps.{values}
-use Rattle.run.specs.declared.carriage.Against.{Against}
+use Rattle.run.specs.declared.hearing.Against.{Against}
 
 unfoldable pub bitOf : ℕ → ℕ → ℕ
 bitOf ones i = cond (has ones i) 1 0

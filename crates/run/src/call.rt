@@ -1,7 +1,8 @@
 // A call to run: card and plan are checked before the first block, then the call is.
 use crate::block;
-use crate::carriage;
+use crate::hearing;
 use crate::values::Values;
+use carriage::opening;
 use network::card;
 use network::card::Reading;
 use plan::check;
@@ -18,7 +19,7 @@ ghost use Rattle.rules.specs.Blocks.{decodeBlocks};
 ghost use Rattle.steps.specs.Steps.{held, values, runBlocks};
 ghost use Rattle.steps.specs.Run.{areBits, checkCall, decided, afterAnswer};
 ghost use Rattle.run.specs.Speaking.{bitsOf, worksOf};
-ghost use Rattle.run.specs.Openings.{Runnable};
+ghost use Rattle.carriage.specs.Openings.{Runnable};
 ghost use Rattle.run.specs.Answers.{valuesOf, ranOf, Answered};
 
 pub enum Ran {
@@ -47,11 +48,11 @@ fn run_blocks(
     let mut number: usize = 0;
     for k in 0..blocks {
         let part = &plan[at..];
-        let opening = block::read_opening(n, f, part, &sizes);
+        let opening = opening::read_opening(n, f, part, &sizes);
         let next = block::run_block(values, opening, faulty, table, number, part);
         values = next;
-        at = at + opening.bytes();
-        number = number + opening.carriages();
+        at = at + opening.bytes;
+        number = number + opening.carriages;
     }
     values
 }
@@ -92,7 +93,7 @@ fn write(n: u8, faulty: u8, v: u8, lent: &mut [u8])
         if sets::member(faulty, i) {
             lent[j] = 2;
         } else {
-            lent[j] = carriage::bit(v, i);
+            lent[j] = hearing::bit(v, i);
         }
     }
 }

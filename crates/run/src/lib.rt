@@ -1,5 +1,5 @@
 // The run: Algorithm BC with a plan's choices, block by block.
 mod block;
 pub mod call;
-mod carriage;
+mod hearing;
 mod values;

@@ -1,8 +1,8 @@
 // The values of the eight servers that there can be, and the six steps of a block on them. Step 3
 // and the arrivals of every step go by the values before the step.
-use crate::block::Opening;
-use crate::carriage;
-use crate::carriage::Against;
+use crate::hearing;
+use crate::hearing::Against;
+use carriage::opening::Opening;
 ghost use mathlib.Core.Path.{_≡_};
 ghost use mathlib.Core.Bool.{cond};
 ghost use mathlib.Core.List.{map};
@@ -11,7 +11,7 @@ ghost use Rattle.sets.specs.Sets.{has, minus, full};
 ghost use Rattle.rules.specs.Blocks.{carriageOf, reportCarriages};
 ghost use Rattle.steps.specs.Steps.{values, step1, gather, compare, step5, step6};
 ghost use Rattle.run.specs.Speaking.{workOf, bitsOf, worksOf, replaced, alike, settled};
-ghost use Rattle.run.specs.Openings.{Ready, blockAt};
+ghost use Rattle.carriage.specs.Openings.{Ready, blockAt};
 
 // A value is held as a set of servers, so that a step changes all servers at the same time.
 pub struct Values {
@@ -76,7 +76,7 @@ impl Values {
         requires { ⌜ Ready opening (now block) × (number ≤ 1048576) ⌝ }
         ensures { λ r. ⌜ (r .v ≡ self .v) × (worksOf (r .sure) (r .t) ≡ gather faulty (now (table .entry)) number (map carriageOf (blockAt opening (now (block .entry)) .inward)) (minus (opening .quorum) (opening .side)) (worksOf (self .sure) (self .t))) ⌝ }
     {
-        let inward = carriage::over_routes(
+        let inward = hearing::over_routes(
             faulty,
             table,
             number,
@@ -86,7 +86,7 @@ impl Values {
             4,
             opening.inward,
         );
-        let against = carriage::unpacked(inward);
+        let against = hearing::unpacked(inward);
         let after = self.gathered(sets::minus(opening.quorum, opening.side), against);
         self = after;
         self
@@ -105,7 +105,7 @@ impl Values {
         ensures { λ r. ⌜ (r .v ≡ self .v) × (worksOf (r .sure) (r .t) ≡ compare faulty (now (table .entry)) (number + opening .inward) (map carriageOf (blockAt opening (now (block .entry)) .among)) (opening .quorum) (worksOf (self .sure) (self .t))) ⌝ }
     {
         let place = 4 + 9 * opening.inward;
-        let among = carriage::over_routes(
+        let among = hearing::over_routes(
             faulty,
             table,
             number + opening.inward,
@@ -115,7 +115,7 @@ impl Values {
             place,
             opening.among,
         );
-        let against = carriage::unpacked(among);
+        let against = hearing::unpacked(among);
         // Against 1 for a server whose t is 1, else against 0.
         let differs = replaced(against.zero, self.t, against.one);
         let sure = sets::minus(self.sure, sets::meet(opening.quorum, differs));
@@ -137,7 +137,7 @@ impl Values {
     {
         let earlier = opening.inward + opening.among;
         let place = 4 + 9 * earlier;
-        let outward = carriage::over_routes(
+        let outward = hearing::over_routes(
             faulty,
             table,
             number + earlier,
@@ -147,7 +147,7 @@ impl Values {
             place,
             opening.outward,
         );
-        let against = carriage::unpacked(outward);
+        let against = hearing::unpacked(outward);
         let sound = sets::minus(sets::full(opening.n), opening.fault);
         let after = self.gathered(sets::minus(sound, opening.quorum), against);
         self = after;
@@ -180,7 +180,7 @@ impl Values {
         let earlier = opening.inward + opening.among + opening.outward;
         let place = 4 + 9 * earlier;
         let each = (opening.f as usize) + 1;
-        let against = carriage::over_reports(
+        let against = hearing::over_reports(
             faulty,
             table,
             number + earlier,

@@ -5,14 +5,12 @@ use native.Mathlib.Omega.{arith}
 use borrow.Author.Needs.{needs}
 use Rattle.run.specs.Speaking.{bitsOf, worksOf}
 use Rattle.run.specs.Answers.{valuesOf}
-use Rattle.run.proofs.Blockwise.{Along, blocks-start, blocks-end, opening-there, block-ready, Room, block-room, blocks-turn}
+use Rattle.run.proofs.Blockwise.{Along, blocks-start, blocks-end, ready, Room, block-room, blocks-turn}
 use Rattle.run.proofs.call.run_blocks.Statement.{statement}
 use Rattle.run.proofs.call.run_blocks.Tie as tie
 use Rattle.run.proofs.call.run_blocks.Reads as reads
 use Rattle.run.proofs.call.run_blocks.Lts as lts
-use Rattle.run.proofs.block.Opening.bytes.Reads as bytes-reads
-use Rattle.run.proofs.block.Opening.carriages.Reads as carriages-reads
-use Rattle.run.proofs.block.read_opening.Reads as read-opening-reads
+use Rattle.carriage.proofs.opening.read_opening.Reads as read-opening-reads
 use Rattle.run.proofs.block.run_block.Reads as run-block-reads
 use Rattle.sets.proofs.sizes.Reads as sizes-reads
 
@@ -44,28 +42,21 @@ part-part-start c = search needs
 part-part-end : tie.Need-part-part-end Inv-loop μ-loop
 part-part-end c = search needs
 
--- the opening command of the next block is there
 read-opening-requires : tie.Need-read-opening-requires Inv-loop μ-loop
-read-opening-requires c κs = search (needs, opening-there)
+read-opening-requires c κs = search needs
 
--- and the block is ready to run
+-- the block is ready to run
 run-block-requires : tie.Need-run-block-requires Inv-loop μ-loop
-run-block-requires c κs = search (needs, block-ready)
-
-bytes-requires : tie.Need-bytes-requires Inv-loop μ-loop
-bytes-requires c κs = omega (arith, room (c .before))
+run-block-requires c κs = (search ready, let l = c .before .before .before .before .loop .inv in omega arith)
 
 add-at : tie.Need-add-at Inv-loop μ-loop
-add-at c = search (needs, room (c .before .before))
-
-carriages-requires : tie.Need-carriages-requires Inv-loop μ-loop
-carriages-requires c κs = search (needs, room (c .before .before))
+add-at c = let r = room (c .before .before) in search needs
 
 add-number : tie.Need-add-number Inv-loop μ-loop
-add-number c = search (needs, room (c .before .before .before))
+add-number c = let r = room (c .before .before .before) in search needs
 
 add-k : tie.Need-add-k Inv-loop μ-loop
-add-k c = search needs
+add-k c = let t = c .before .before .before .before .before .before .loop-test .taken in let g = c .before .before .before .before .before .before .before .before .before .before .before .good .1 .1 .0 in omega arith
 
 loop-less : tie.Need-loop-less Inv-loop μ-loop
 loop-less c = search needs
@@ -89,9 +80,7 @@ run-blocks-spec =
     part-part-end
     read-opening-requires
     run-block-requires
-    bytes-requires
     add-at
-    carriages-requires
     add-number
     add-k
     loop-less

@@ -9,7 +9,7 @@ use Rattle.run.proofs.call.write.Statement.{statement}
 use Rattle.run.proofs.call.write.Tie as tie
 use Rattle.run.proofs.call.write.Reads as reads
 use Rattle.run.proofs.call.write.Lts as lts
-use Rattle.run.proofs.carriage.bit.Reads as bit-reads
+use Rattle.run.proofs.hearing.bit.Reads as bit-reads
 use Rattle.sets.proofs.member.Reads as member-reads
 
 abbrev Inv-loop : tie.InvT-loop

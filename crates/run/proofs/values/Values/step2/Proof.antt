@@ -1,15 +1,15 @@
 -- `run::values::Values::step2` meets its contract: what the arrivals speak against settles their common value. Assumes nothing.
 use native.Mathlib.Omega.{arith}
 use borrow.Author.Needs.{needs}
-use Rattle.run.proofs.Placed.{block-fits, inward-servers}
+use Rattle.carriage.proofs.Placed.{block-fits, inward-servers}
 use Rattle.run.proofs.Speaking.{speaks-unpacked}
 use Rattle.run.proofs.Stepped.{step2-is}
 use Rattle.run.proofs.values.Values.step2.Statement.{statement}
 use Rattle.run.proofs.values.Values.step2.Tie as tie
 use Rattle.run.proofs.values.Values.step2.Reads as reads
 use Rattle.run.proofs.values.Values.step2.Lts as lts
-use Rattle.run.proofs.carriage.over_routes.Reads as over-routes-reads
-use Rattle.run.proofs.carriage.unpacked.Reads as unpacked-reads
+use Rattle.run.proofs.hearing.over_routes.Reads as over-routes-reads
+use Rattle.run.proofs.hearing.unpacked.Reads as unpacked-reads
 use Rattle.run.proofs.values.Values.gathered.Reads as gathered-reads
 use Rattle.sets.proofs.minus.Reads as minus-reads
 

@@ -2,15 +2,15 @@
 use mathlib.Core.Path.{refl}
 use native.Mathlib.Omega.{arith}
 use borrow.Author.Needs.{needs}
-use Rattle.run.proofs.Placed.{block-fits, among-servers}
+use Rattle.carriage.proofs.Placed.{block-fits, among-servers}
 use Rattle.run.proofs.Speaking.{speaks-unpacked}
 use Rattle.run.proofs.Stepped.{step3-is}
 use Rattle.run.proofs.values.Values.step3.Statement.{statement}
 use Rattle.run.proofs.values.Values.step3.Tie as tie
 use Rattle.run.proofs.values.Values.step3.Reads as reads
 use Rattle.run.proofs.values.Values.step3.Lts as lts
-use Rattle.run.proofs.carriage.over_routes.Reads as over-routes-reads
-use Rattle.run.proofs.carriage.unpacked.Reads as unpacked-reads
+use Rattle.run.proofs.hearing.over_routes.Reads as over-routes-reads
+use Rattle.run.proofs.hearing.unpacked.Reads as unpacked-reads
 use Rattle.run.proofs.values.replaced.Reads as replaced-reads
 use Rattle.sets.proofs.meet.Reads as meet-reads
 use Rattle.sets.proofs.minus.Reads as minus-reads

@@ -2,13 +2,13 @@
 use mathlib.Core.Path.{refl}
 use native.Mathlib.Omega.{arith}
 use borrow.Author.Needs.{needs}
-use Rattle.run.proofs.Placed.{block-fits, reports-servers, reports-few}
+use Rattle.carriage.proofs.Placed.{block-fits, reports-servers, reports-few}
 use Rattle.run.proofs.Stepped.{step6-is}
 use Rattle.run.proofs.values.Values.step6.Statement.{statement}
 use Rattle.run.proofs.values.Values.step6.Tie as tie
 use Rattle.run.proofs.values.Values.step6.Reads as reads
 use Rattle.run.proofs.values.Values.step6.Lts as lts
-use Rattle.run.proofs.carriage.over_reports.Reads as over-reports-reads
+use Rattle.run.proofs.hearing.over_reports.Reads as over-reports-reads
 use Rattle.run.proofs.values.alike.Reads as alike-reads
 use Rattle.run.proofs.values.replaced.Reads as replaced-reads
 use Rattle.sets.proofs.meet.Reads as meet-reads

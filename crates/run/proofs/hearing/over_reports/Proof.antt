@@ -1,4 +1,4 @@
--- `run::carriage::over_reports` meets its contract. The invariant of its loop: with what is left of the commands, what is held becomes that of the whole
+-- `run::hearing::over_reports` meets its contract. The invariant of its loop: with what is left of the commands, what is held becomes that of the whole
 -- (`Reported`). The measure is how many commands are left. Assumes nothing.
 use Prim.Native.Nat.{_-_}
 use borrow.Author.Needs.{needs}
@@ -6,11 +6,11 @@ use native.Mathlib.Omega.{arith}
 use Rattle.steps.specs.Steps.{held}
 use Rattle.run.specs.Speaking.{bitsOf}
 use Rattle.run.proofs.Reported.{Gathering, gathering-starts, gathering-eight, gathering-goes, gathering-done}
-use Rattle.run.proofs.carriage.over_reports.Statement.{statement}
-use Rattle.run.proofs.carriage.over_reports.Tie as tie
-use Rattle.run.proofs.carriage.over_reports.Reads as reads
-use Rattle.run.proofs.carriage.over_reports.Lts as lts
-use Rattle.run.proofs.carriage.over_report.Reads as over-report-reads
+use Rattle.run.proofs.hearing.over_reports.Statement.{statement}
+use Rattle.run.proofs.hearing.over_reports.Tie as tie
+use Rattle.run.proofs.hearing.over_reports.Reads as reads
+use Rattle.run.proofs.hearing.over_reports.Lts as lts
+use Rattle.run.proofs.hearing.over_report.Reads as over-report-reads
 
 abbrev Inv-loop : tie.InvT-loop
 Inv-loop faulty table first ones block place count each against₀ at₀ number₀ k₀ against at number k =

@@ -1,12 +1,12 @@
--- `run::carriage::work` meets its contract. Assumes nothing.
+-- `run::hearing::work` meets its contract. Assumes nothing.
 use mathlib.Core.Path.{refl, sym, _∙_}
 use Rattle.run.specs.Speaking.{workOf}
 use borrow.Author.Needs.{needs}
-use Rattle.run.proofs.carriage.work.Statement.{statement}
-use Rattle.run.proofs.carriage.work.Tie as tie
-use Rattle.run.proofs.carriage.work.Reads as reads
-use Rattle.run.proofs.carriage.work.Lts as lts
-use Rattle.run.proofs.carriage.bit.Reads as bit-reads
+use Rattle.run.proofs.hearing.work.Statement.{statement}
+use Rattle.run.proofs.hearing.work.Tie as tie
+use Rattle.run.proofs.hearing.work.Reads as reads
+use Rattle.run.proofs.hearing.work.Lts as lts
+use Rattle.run.proofs.hearing.bit.Reads as bit-reads
 use Rattle.sets.proofs.member.Reads as member-reads
 
 member-requires : tie.Need-member-requires

@@ -1,4 +1,4 @@
--- `run::carriage::over_report` meets its contract. The invariant of its loop, `Telling`: with what is left of the reporters, what is held becomes that of
+-- `run::hearing::over_report` meets its contract. The invariant of its loop, `Telling`: with what is left of the reporters, what is held becomes that of
 -- the whole. The measure is how many reporters are left. What a turn needs is known once the lowest of them is taken out (`taken-out`). Assumes nothing.
 use lib.ListN.{length}
 use borrow.Author.Needs.{needs}
@@ -7,12 +7,12 @@ use Rattle.steps.specs.Steps.{held}
 use Rattle.run.specs.Speaking.{bitsOf}
 use Rattle.plan.proofs.Lowests.{Taken, take-lowest, taken-less}
 use Rattle.run.proofs.Reported.{Telling, telling-starts, telling-fits, telling-goes, telling-done}
-use Rattle.run.proofs.carriage.over_report.Statement.{statement}
-use Rattle.run.proofs.carriage.over_report.Tie as tie
-use Rattle.run.proofs.carriage.over_report.Reads as reads
-use Rattle.run.proofs.carriage.over_report.Lts as lts
-use Rattle.run.proofs.carriage.reported.Reads as reported-reads
-use Rattle.run.proofs.carriage.spoken.Reads as spoken-reads
+use Rattle.run.proofs.hearing.over_report.Statement.{statement}
+use Rattle.run.proofs.hearing.over_report.Tie as tie
+use Rattle.run.proofs.hearing.over_report.Reads as reads
+use Rattle.run.proofs.hearing.over_report.Lts as lts
+use Rattle.run.proofs.hearing.reported.Reads as reported-reads
+use Rattle.run.proofs.hearing.spoken.Reads as spoken-reads
 use Rattle.sets.proofs.lowest.Reads as lowest-reads
 use Rattle.sets.proofs.minus.Reads as minus-reads
 use Rattle.sets.proofs.single.Reads as single-reads

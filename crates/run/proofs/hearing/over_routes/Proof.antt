@@ -1,4 +1,4 @@
--- `run::carriage::over_routes` meets its contract. The invariant of its loop: with what the routes left bring, what is held becomes what the whole speaks
+-- `run::hearing::over_routes` meets its contract. The invariant of its loop: with what the routes left bring, what is held becomes what the whole speaks
 -- against. The measure is how many routes are left. What a turn needs are lemmas of `Carried`; `search` finds their premises. Assumes nothing.
 use borrow.Author.Needs.{needs}
 use mathlib.Core.List.{map}
@@ -9,14 +9,15 @@ use Rattle.steps.specs.Hearing.{heard}
 use Rattle.steps.specs.Steps.{held}
 use Rattle.run.specs.Speaking.{worksOf}
 use Rattle.run.proofs.Speaking.{speaks-packed}
-use Rattle.run.proofs.Carried.{route-wide, route-two, route-source, route-receiver, Arriving, arrivals-start, arrivals-go, arrivals-end}
-use Rattle.run.proofs.carriage.over_routes.Statement.{statement}
-use Rattle.run.proofs.carriage.over_routes.Tie as tie
-use Rattle.run.proofs.carriage.over_routes.Reads as reads
-use Rattle.run.proofs.carriage.over_routes.Lts as lts
-use Rattle.run.proofs.carriage.brought.Reads as brought-reads
-use Rattle.run.proofs.carriage.spoken.Reads as spoken-reads
-use Rattle.run.proofs.carriage.walked.Reads as walked-reads
+use Rattle.carriage.proofs.Routes.{operand}
+use Rattle.run.proofs.Carried.{OnRoute, Arriving, arrivals-start, along, arrivals-go, arrivals-end}
+use Rattle.run.proofs.hearing.over_routes.Statement.{statement}
+use Rattle.run.proofs.hearing.over_routes.Tie as tie
+use Rattle.run.proofs.hearing.over_routes.Reads as reads
+use Rattle.run.proofs.hearing.over_routes.Lts as lts
+use Rattle.run.proofs.hearing.brought.Reads as brought-reads
+use Rattle.run.proofs.hearing.spoken.Reads as spoken-reads
+use Rattle.carriage.proofs.walk.walked.Reads as walked-reads
 
 abbrev Inv-loop : tie.InvT-loop
 Inv-loop faulty table first sure ones block place count zero₀ one₀ at₀ k₀ zero one at k =
@@ -40,9 +41,15 @@ part-operand-start c = search needs
 part-operand-end : tie.Need-part-operand-end Inv-loop μ-loop
 part-operand-end c = search needs
 
--- the operand of the next route has eight bytes, and servers in two of them at least
 walked-requires : tie.Need-walked-requires Inv-loop μ-loop
-walked-requires c κs = search (route-wide, route-two)
+walked-requires c κs = search needs
+
+-- the operand is a route's: the walk ends at its receiver
+walk : (c : tie.After-walked Inv-loop μ-loop) →
+    let l = c .before .before .before in
+    let a = l .before .before .before .args in
+    OnRoute (a .faulty) (operand (a .block .now) (l .loop .at)) (c .walked .result)
+walk c = along (c .before .before .before .loop .inv .0) (omega arith) _ (c .walked .ensures)
 
 add-brought : tie.Need-add-brought Inv-loop μ-loop
 add-brought c = search needs
@@ -52,14 +59,14 @@ shared-slice-read-brought c = search needs
 
 -- the first of them is its source
 brought-requires : tie.Need-brought-requires Inv-loop μ-loop
-brought-requires c κs = search route-source
+brought-requires c κs = walk (c .before) .from-server
 
 shared-slice-read-spoken : tie.Need-shared-slice-read-spoken Inv-loop μ-loop
-shared-slice-read-spoken c = search needs
+shared-slice-read-spoken c = let w = walk (c .before .before .before) in omega arith
 
 -- and the last its receiver
 spoken-requires : tie.Need-spoken-requires Inv-loop μ-loop
-spoken-requires c κs = search route-receiver
+spoken-requires c κs = walk (c .before .before .before) .to-server
 
 add-at : tie.Need-add-at Inv-loop μ-loop
 add-at c = search needs
@@ -73,8 +80,8 @@ loop-less c = search needs
 -- what is left after one route more
 loop-again : tie.Need-loop-again Inv-loop μ-loop
 loop-again c =
-    let e = c .before .before .before .before .walked .ensures in
-    (arrivals-go (c .before .before .before .before .before .before .before .loop .inv .0) (omega arith) _ (e .0) (e .2) _ (e .3) (e .1) _ (c .before .before .brought .ensures) _ (c .spoken .ensures), search needs, search needs)
+    let w = c .before .before .before .before in
+    (arrivals-go (w .before .before .before .loop .inv .0) (omega arith) _ (w .walked .ensures) _ (c .before .before .brought .ensures) _ (c .spoken .ensures), search needs, search needs)
 
 cast-result : tie.Need-cast-result Inv-loop μ-loop
 cast-result c = search needs

@@ -1,11 +1,11 @@
--- `run::carriage::bit` meets its contract. Assumes nothing.
+-- `run::hearing::bit` meets its contract. Assumes nothing.
 use mathlib.Core.Path.{refl, sym, _∙_}
 use Rattle.run.specs.Speaking.{bitOf}
 use borrow.Author.Needs.{needs}
-use Rattle.run.proofs.carriage.bit.Statement.{statement}
-use Rattle.run.proofs.carriage.bit.Tie as tie
-use Rattle.run.proofs.carriage.bit.Reads as reads
-use Rattle.run.proofs.carriage.bit.Lts as lts
+use Rattle.run.proofs.hearing.bit.Statement.{statement}
+use Rattle.run.proofs.hearing.bit.Tie as tie
+use Rattle.run.proofs.hearing.bit.Reads as reads
+use Rattle.run.proofs.hearing.bit.Lts as lts
 use Rattle.sets.proofs.member.Reads as member-reads
 
 member-requires : tie.Need-member-requires

@@ -1,11 +1,11 @@
--- `run::carriage::spoken` meets its contract. Assumes nothing.
+-- `run::hearing::spoken` meets its contract. Assumes nothing.
 use Rattle.run.proofs.Speaking.{adds-one}
 use borrow.Author.Needs.{needs}
-use Rattle.run.proofs.carriage.spoken.Statement.{statement}
-use Rattle.run.proofs.carriage.spoken.Tie as tie
-use Rattle.run.proofs.carriage.spoken.Reads as reads
-use Rattle.run.proofs.carriage.spoken.Lts as lts
-use Rattle.run.proofs.carriage.chosen.Reads as chosen-reads
+use Rattle.run.proofs.hearing.spoken.Statement.{statement}
+use Rattle.run.proofs.hearing.spoken.Tie as tie
+use Rattle.run.proofs.hearing.spoken.Reads as reads
+use Rattle.run.proofs.hearing.spoken.Lts as lts
+use Rattle.run.proofs.hearing.chosen.Reads as chosen-reads
 use Rattle.sets.proofs.single.Reads as single-reads
 use Rattle.sets.proofs.union.Reads as union-reads
 

@@ -1,14 +1,14 @@
--- `run::carriage::brought` meets its contract. Assumes nothing.
+-- `run::hearing::brought` meets its contract. Assumes nothing.
 use mathlib.Core.Path.{sym, _∙_}
 use Rattle.run.specs.Speaking.{workOf}
 use Rattle.steps.proofs.Eight.{values-at}
 use borrow.Author.Needs.{needs}
-use Rattle.run.proofs.carriage.brought.Statement.{statement}
-use Rattle.run.proofs.carriage.brought.Tie as tie
-use Rattle.run.proofs.carriage.brought.Reads as reads
-use Rattle.run.proofs.carriage.brought.Lts as lts
-use Rattle.run.proofs.carriage.message.Reads as message-reads
-use Rattle.run.proofs.carriage.work.Reads as work-reads
+use Rattle.run.proofs.hearing.brought.Statement.{statement}
+use Rattle.run.proofs.hearing.brought.Tie as tie
+use Rattle.run.proofs.hearing.brought.Reads as reads
+use Rattle.run.proofs.hearing.brought.Lts as lts
+use Rattle.carriage.proofs.arrival.message.Reads as message-reads
+use Rattle.run.proofs.hearing.work.Reads as work-reads
 
 message-requires : tie.Need-message-requires
 message-requires c κs = search needs

@@ -1,4 +1,6 @@
 // What a carriage brings, and what the arrivals of each server speak against.
+use carriage::arrival;
+use carriage::walk;
 ghost use mathlib.Core.Path.{_≡_};
 ghost use mathlib.Core.Bool.{cond};
 ghost use mathlib.Core.List.{[], _∷_, map};
@@ -13,7 +15,7 @@ ghost use Rattle.facts.specs.Lists.{Each};
 ghost use Rattle.steps.specs.Hearing.{hit, message, heard};
 ghost use Rattle.steps.specs.Steps.{held};
 ghost use Rattle.run.specs.Speaking.{bitOf, workOf, bitsOf, worksOf, Adds, Speaks, reported};
-ghost use Rattle.run.specs.Openings.{Servers, ReportOf};
+ghost use Rattle.carriage.specs.Openings.{Servers, ReportOf};
 
 // What the arrivals of a step speak against, server by server.
 pub struct Against {
@@ -32,44 +34,6 @@ pub(crate) fn unpacked(sets: u16) -> Against
         zero: (sets % 256) as u8,
         one: (sets / 256) as u8,
     }
-}
-
-// The table's byte of this number: 0 and 1 as they are, any other and a missing one as 2.
-fn message(table: &[u8], number: usize) -> u8
-    ensures { λ r. ⌜ r ≡ message (now (table .entry)) number ⌝ }
-{
-    if table.len() <= number {
-        return 2;
-    }
-    let byte = table[number];
-    if byte < 2 {
-        return byte;
-    }
-    2
-}
-
-// A route as its carriage goes along it.
-pub struct Walk {
-    // Where the receiver stands in the operand.
-    pub end: usize,
-    // Some server before the receiver is faulty.
-    pub hit: bool,
-}
-
-// The receiver is the last of the servers, so the walk ends where a fill byte comes next.
-fn walked(faulty: u8, operand: &[u8]) -> Walk
-    requires { ⌜ (8 ≤ length (now operand)) × (2 ≤ length (path (take 8 (now operand)))) ⌝ }
-    ensures { λ r. ⌜ (r .end + 1 ≡ length (path (take 8 (now (operand .entry))))) × (1 ≤ r .end) × (r .end ≤ 7) × (r .hit ≡ hit faulty (take (r .end) (now (operand .entry)))) ⌝ }
-{
-    let mut hit = sets::member(faulty, operand[0]);
-    for k in 1..7usize {
-        let here = sets::member(faulty, operand[k]);
-        if operand[k + 1] == 255 {
-            return Walk { end: k, hit };
-        }
-        hit = hit | here;
-    }
-    Walk { end: 7, hit }
 }
 
 // The value of server i, where `ones` are the servers with 1.
@@ -98,7 +62,7 @@ fn brought(hit: bool, table: &[u8], number: usize, sure: u8, ones: u8, source: u
     ensures { λ r. ⌜ r ≡ cond hit (message (now (table .entry)) number) (held (worksOf sure ones) source) ⌝ }
 {
     if hit {
-        return message(table, number);
+        return arrival::message(table, number);
     }
     work(sure, ones, source)
 }
@@ -148,7 +112,7 @@ pub(crate) fn over_routes(
     for k in 0..count {
         let operand_at = at + 1;
         let operand = &block[operand_at..];
-        let route = walked(faulty, operand);
+        let route = walk::walked(faulty, operand);
         let arrival = brought(route.hit, table, first + k, sure, ones, operand[0]);
         let end = route.end;
         let next = spoken(zero, one, operand[end], arrival);
@@ -165,7 +129,7 @@ fn reported(faulty: u8, table: &[u8], number: usize, ones: u8, m: u8) -> u8
     ensures { λ r. ⌜ r ≡ cond (has faulty m) (message (now (table .entry)) number) (getD (bitsOf ones) m 0) ⌝ }
 {
     if sets::member(faulty, m) {
-        return message(table, number);
+        return arrival::message(table, number);
     }
     bit(ones, m)
 }

@@ -1,14 +1,14 @@
--- `run::carriage::reported` meets its contract. Assumes nothing.
+-- `run::hearing::reported` meets its contract. Assumes nothing.
 use mathlib.Core.Path.{sym, _∙_}
 use Rattle.run.specs.Speaking.{bitOf}
 use Rattle.steps.proofs.Eight.{values-at}
 use borrow.Author.Needs.{needs}
-use Rattle.run.proofs.carriage.reported.Statement.{statement}
-use Rattle.run.proofs.carriage.reported.Tie as tie
-use Rattle.run.proofs.carriage.reported.Reads as reads
-use Rattle.run.proofs.carriage.reported.Lts as lts
-use Rattle.run.proofs.carriage.bit.Reads as bit-reads
-use Rattle.run.proofs.carriage.message.Reads as message-reads
+use Rattle.run.proofs.hearing.reported.Statement.{statement}
+use Rattle.run.proofs.hearing.reported.Tie as tie
+use Rattle.run.proofs.hearing.reported.Reads as reads
+use Rattle.run.proofs.hearing.reported.Lts as lts
+use Rattle.run.proofs.hearing.bit.Reads as bit-reads
+use Rattle.carriage.proofs.arrival.message.Reads as message-reads
 use Rattle.sets.proofs.member.Reads as member-reads
 
 member-requires : tie.Need-member-requires
