@@ -1,6 +1,10 @@
 -- Turned     the turns of a plan are the run
 -- Delivered  what reaches a server over a turn is what it hears in the run
+-- Sources    the sources of a block's carriages, by the rules of an accepted plan
+-- Committed  one kind of a block: each server's commit gives the run's v and t
 -- Main       what a user of the definitions relies on
 pub mod Turned
 pub mod Delivered
+pub mod Sources
+pub mod Committed
 pub mod Main
