@@ -87,12 +87,19 @@ module _ (n f : ℕ) (plan : List ℕ) (blocks X : ℕ) (table : List ℕ) where
       let next = from-next n f plan j ∙ ap (λ (r : List ℕ). drop (lengthOf (decodeBlock n f r)) r) e in
       let later = decode-chained links few k (suc j) (drop (lengthOf b) s) (number14 + length (carriagesOf 0x14 b)) next (omega arith) (λ c m. rules c (List·Memᴰ·tail m)) in
       let inside : j < blocks = omega arith in
-      rw l
-      (record { inside = inside; is = (refl, refl, refl); same = refl; block = is; steps = inward-kind n f links few d b g X table number },
-      (record { inside = inside; is = (refl, refl, refl); same = refl; block = is; steps = among-kind n f links few d b g X table number12 },
-      (record { inside = inside; is = (refl, refl, refl); same = refl; block = is; steps = outward-kind n f links few d b g X table number13 },
-      (record { inside = inside; is = (refl, refl, refl); same = refl; block = is; steps = reports-kind n f links few d b g X table number14 },
-      later))))
+      rw l (
+        record { inside = inside; is = (refl, refl, refl); same = refl; block = is; steps = inward-kind n f links few d b g X table number },
+        (
+          record { inside = inside; is = (refl, refl, refl); same = refl; block = is; steps = among-kind n f links few d b g X table number12 },
+          (
+            record { inside = inside; is = (refl, refl, refl); same = refl; block = is; steps = outward-kind n f links few d b g X table number13 },
+            (
+              record { inside = inside; is = (refl, refl, refl); same = refl; block = is; steps = reports-kind n f links few d b g X table number14 },
+              later,
+            ),
+          ),
+        ),
+      )
 
   pub plan-chained : (card : List ℕ) (links : Links) → readCard card ≡ network n f links → (carriages : ℕ) → checkPlan card plan ≡ totals blocks carriages
       → Chained 0 0x11 (turns 0 (decodePlan n f plan))
