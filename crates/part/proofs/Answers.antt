@@ -16,7 +16,7 @@ use Rattle.network.specs.Card.{network, readCard}
 use Rattle.plan.specs.Check.{totals, checkPlan}
 use Rattle.part.specs.Own.{carriagesOf, sent, given, Own, committed}
 use Rattle.part.specs.State.{State, first, isEnd, placed, stands, opened, nextBlock, nextKind, next}
-use Rattle.part.specs.Calls.{Site, site, siteOf, blockOf, Stepped, Asked, startOn, valuesDue, askOn, commitOn, startCall, askCall, commitCall}
+use Rattle.part.specs.Calls.{site, siteOf, blockOf, Stepped, Asked, startOn, valuesDue, askOn, commitOn, startCall, askCall, commitCall}
 use Rattle.part.proofs.Committed.{Small}
 
 abbrev pub standing : ℕ → ℕ → Own → State

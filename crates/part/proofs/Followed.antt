@@ -7,12 +7,12 @@
 --     end-stands     so all are at the end, with the values of the run
 --     step-by-step   the statement
 -- Assumes nothing.
-use mathlib.Core.Path.{_≡_, refl, sym, ap, ap₂, _∙_, subst}
+use mathlib.Core.Path.{_≡_, sym, ap, ap₂, _∙_, subst}
 use mathlib.Core.Bool.{true}
 use mathlib.Core.List.{List, [], _∷_}
 use Prim.Native.Nat.{ℕ, zero, suc, _≤_, _<_}
 use native.Mathlib.Omega.{arith}
-use lib.ListN.{length, getD, take, replicate, length-replicate, getD-replicate}
+use lib.ListN.{length, take, replicate, length-replicate, getD-replicate}
 use Rattle.network.specs.Links.{Links}
 use Rattle.network.specs.Card.{network, readCard}
 use Rattle.network.proofs.Main.{card-proper}
@@ -22,14 +22,14 @@ use Rattle.steps.specs.Steps.{Values, held, values}
 use Rattle.steps.specs.Run.{areBits}
 use Rattle.steps.proofs.Eight.{values-at}
 use Rattle.steps.proofs.Decides.{bits-at}
-use Rattle.part.specs.Own.{carriagesOf, given, Own, committed}
+use Rattle.part.specs.Own.{carriagesOf, given, committed}
 use Rattle.part.specs.State.{State, first, opened}
-use Rattle.part.specs.Calls.{site, siteOf, blockOf, Stepped, Asked, askCall, commitCall, stateAfter, stateAsked, valuesIn}
+use Rattle.part.specs.Calls.{site, siteOf, blockOf, Asked, askCall, commitCall, stateAfter, stateAsked, valuesIn}
 use Rattle.part.specs.Beside.{Turn, turns, delivered, States, besideTurn, besideOver, startBeside, runTurn, runOver}
 use Rattle.part.specs.Theorems.{startValues, Follows, StepByStep}
 use Rattle.part.proofs.Delivered.{given-long}
-use Rattle.part.proofs.Committed.{Small, committed-small, ownOf, SmallBelow, sends, AsRun}
-use Rattle.part.proofs.Answers.{standing, IsKind, blockAfter, kindAfter, site-is, starts, asks, commits}
+use Rattle.part.proofs.Committed.{Small, committed-small, ownOf, SmallBelow, sentBy}
+use Rattle.part.proofs.Answers.{standing, blockAfter, kindAfter, site-is, starts, asks, commits}
 use Rattle.part.proofs.Turns.{Due, Chained, plan-chained}
 
 module _ (card plan : List ℕ) (n f blocks : ℕ) (is : siteOf card plan ≡ site n f blocks) (X : ℕ) (table : List ℕ) where
@@ -46,16 +46,16 @@ module _ (card plan : List ℕ) (n f blocks : ℕ) (is : siteOf card plan ≡ si
     abbrev answer : ℕ → Asked
     answer i = askCall card plan i (states i) (replicate (length carried) 0)
 
-    answer-is : (i : ℕ) → i < n → answer i ≡ Asked.sends (opened (standing j kind (ownOf run i))) (given (sends (turn .kind) run i) i carried)
+    answer-is : (i : ℕ) → i < n → answer i ≡ Asked.sends (opened (standing j kind (ownOf run i))) (given (sentBy (turn .kind) run i) i carried)
     answer-is i h =
         let o = ownOf run i in
         let same : (A : Type 0) (g : ℕ → Block → A) → g kind (blockOf n f plan j) ≡ g (turn .kind) (turn .block) = λ A g. ap₂ g (sym (due .same)) (sym (due .block)) in
-        let long = given-long (sends kind run i) i (carriagesOf kind (blockOf n f plan j)) in
+        let long = given-long (sentBy kind run i) i (carriagesOf kind (blockOf n f plan j)) in
         let many = same ℕ (λ (k : ℕ) (b : Block). length (carriagesOf k b)) in
         let lent = length-replicate {A = ℕ} (length carried) 0 in
         ap (λ (s : State). askCall card plan i s (replicate (length carried) 0)) (all .each i h)
         ∙ asks card plan n f blocks is i h j kind o (replicate (length carried) 0) (due .inside) (due .is) (all .small i h) (omega arith)
-        ∙ same Asked (λ (k : ℕ) (b : Block). Asked.sends (opened (standing j kind o)) (given (sends k run i) i (carriagesOf k b)))
+        ∙ same Asked (λ (k : ℕ) (b : Block). Asked.sends (opened (standing j kind o)) (given (sentBy k run i) i (carriagesOf k b)))
 
     abbrev arrived : ℕ → List ℕ
     arrived i = delivered X table (turn .number) (λ (j : ℕ). valuesIn (answer j)) carried i

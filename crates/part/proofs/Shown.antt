@@ -3,8 +3,7 @@
 --     byte-is         the byte of a sound server after a run that is answered
 --     shows-the-run   so that is what it shows; demand: and demand 3 of the run holds of what the servers show
 -- Assumes nothing.
-use mathlib.Core.Path.{_≡_, refl, sym, ap, _∙_}
-use mathlib.Core.Bool.{true}
+use mathlib.Core.Path.{_≡_, sym, ap, _∙_}
 use mathlib.Core.List.{List, [], _∷_}
 use Prim.Native.Nat.{ℕ, _+_, _<_}
 use native.Mathlib.Omega.{arith}
@@ -25,7 +24,7 @@ use Rattle.part.specs.Beside.{turns, shownBeside, runOver}
 use Rattle.part.specs.Theorems.{startValues, ending, Decides, ShowsTheRun, Demand3}
 use Rattle.part.proofs.Turned.{turned}
 use Rattle.part.proofs.Committed.{ownOf}
-use Rattle.part.proofs.Answers.{standing, ends}
+use Rattle.part.proofs.Answers.{ends}
 use Rattle.part.proofs.Followed.{is-site, end-stands}
 
 pub decides : Decides

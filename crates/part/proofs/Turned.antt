@@ -4,15 +4,15 @@
 --     turned       the statement, by induction on the blocks
 -- Assumes nothing.
 use mathlib.Core.Path.{_≡_, refl, ap, _∙_}
-use mathlib.Core.List.{List, [], _∷_, _++_, map}
+use mathlib.Core.List.{[], _∷_, _++_, map}
 use Prim.Native.Nat.{ℕ, _+_}
 use native.Mathlib.Omega.{arith}
 use lib.ListN.{length, length-append}
 use Rattle.rules.specs.Blocks.{Block, carriageOf, reportCarriages}
 use Rattle.rules.specs.Blocks as Blocks
-use Rattle.steps.specs.Steps.{Values, runBlock, runBlocks}
+use Rattle.steps.specs.Steps.{runBlock, runBlocks}
 use Rattle.part.specs.Own.{carriagesOf}
-use Rattle.part.specs.Beside.{Turn, turns, runTurn, runOver}
+use Rattle.part.specs.Beside.{turns, runTurn, runOver}
 use Rattle.part.specs.Theorems.{Turned}
 
 -- the number after the carriages of all four kinds
