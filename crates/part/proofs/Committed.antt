@@ -133,12 +133,6 @@ SmallBelow n run = (j : ℕ) → j < n → Small (ownOf run j)
 abbrev pub sentBy : ℕ → Values → ℕ → ℕ
 sentBy kind run j = sent kind (held (run .v) j) (held (run .t) j)
 
-sent-small : (kind : ℕ) (s : Own) → Small s → sent kind (s .v) (s .t) < 3
-unfolding sent
-sent-small kind s (v, t) =
-    let v3 : s .v < 3 = omega arith in
-    either-small (eqb kind 0x11) _ _ v3 (either-small (eqb kind 0x14) _ _ v3 t)
-
 -- with every row as the sources give it, each server's commit of the turn gives the run's values
 abbrev pub AsRun : ℕ → ℕ → List ℕ → Turn → Type 0
 AsRun n X table turn =
@@ -150,12 +144,10 @@ AsRun n X table turn =
 
 -- a block within the rules
 module _ (n f : ℕ) (links : Links) (few : n ≤ 8) (d : DueBlock) (b : Block) (g : InBlock n f links d b) (X : ℕ) (table : List ℕ) (k : ℕ) where
-  arrivals : (kind : ℕ) (run : Values) → SmallBelow n run
+  arrivals : (kind : ℕ) (run : Values) → ((j : ℕ) → j < n → sentBy kind run j < 3)
       → (gave : ℕ → List ℕ) → ((j : ℕ) → j < n → gave j ≡ given (sentBy kind run j) j (carriagesOf kind b)) → (i : ℕ)
       → received (delivered X table k gave (carriagesOf kind b) i) 0 i (carriagesOf kind b) ≡ heard X table k (sentBy kind run) (carriagesOf kind b) i
-  arrivals kind run small gave e i =
-      delivered-heard n X table (sentBy kind run) (λ j l. sent-small kind (ownOf run j) (small j l)) (carriagesOf kind b)
-      (sources-below n f links d b g kind) k gave e i
+  arrivals kind run small gave e i = delivered-heard n X table (sentBy kind run) small (carriagesOf kind b) (sources-below n f links d b g kind) k gave e i
 
   -- the sources of 11 are in A, where step 1 sets t to v
   inward-heard : (run : Values) (i : ℕ)
@@ -172,16 +164,16 @@ module _ (n f : ℕ) (links : Links) (few : n ≤ 8) (d : DueBlock) (b : Block) 
   pub inward-kind : AsRun n X table (record { number = k; kind = 0x11; block = b })
   unfolding committed sent
   inward-kind run small gave e i h =
-      commit-11 n X table k b run i (omega arith) _ (arrivals 0x11 run small gave e i ∙ inward-heard run i)
+      commit-11 n X table k b run i (omega arith) _ (arrivals 0x11 run (λ j l. let o = small j l in omega arith) gave e i ∙ inward-heard run i)
 
   pub among-kind : AsRun n X table (record { number = k; kind = 0x12; block = b })
   unfolding committed sent
-  among-kind run small gave e i h = commit-12 n X table k b run i (omega arith) _ (arrivals 0x12 run small gave e i)
+  among-kind run small gave e i h = commit-12 n X table k b run i (omega arith) _ (arrivals 0x12 run (λ j l. let o = small j l in omega arith) gave e i)
 
   pub outward-kind : AsRun n X table (record { number = k; kind = 0x13; block = b })
   unfolding committed sent
-  outward-kind run small gave e i h = commit-13 n X table k b run i (omega arith) _ (arrivals 0x13 run small gave e i)
+  outward-kind run small gave e i h = commit-13 n X table k b run i (omega arith) _ (arrivals 0x13 run (λ j l. let o = small j l in omega arith) gave e i)
 
   pub reports-kind : AsRun n X table (record { number = k; kind = 0x14; block = b })
   unfolding committed sent
-  reports-kind run small gave e i h = commit-14 n X table k b run i (omega arith) _ (arrivals 0x14 run small gave e i)
+  reports-kind run small gave e i h = commit-14 n X table k b run i (omega arith) _ (arrivals 0x14 run (λ j l. let o = small j l in omega arith) gave e i)

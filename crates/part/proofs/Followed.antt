@@ -1,6 +1,8 @@
 -- Servers stepped side by side go through the turns together, each with the run's v and t. `Standing` says where all of them are: at one kind of one
--- block, with no ask open. `turn-stands` is one turn: what each server gives is what the kind before says, so the commit gives the run's values.
---     turn-stands    one turn leads all servers from its kind to the next
+-- block, with no ask open. `turn-stands` is one turn: no ask and no commit is refused, and each commit gives the run's values. The rest is induction on
+-- the turns.
+--     answer-is      what each server's ask in a turn answers; turn-is: where its commit leaves it
+--     turn-stands    so one turn leads all servers from its kind to the next
 --     some-stand     after any number of turns each server follows the run
 --     all-stand      after all of them each is at the end
 --     begin-stand    all start at the first kind of block 0, with the values that a run starts with
@@ -32,6 +34,7 @@ use Rattle.part.proofs.Committed.{Small, committed-small, ownOf, SmallB
 use Rattle.part.proofs.Answers.{standing, blockAfter, kindAfter, site-is, starts, asks, commits}
 use Rattle.part.proofs.Turns.{Due, Chained, plan-chained}
 
+-- X is the faulty set, `blocks` the number of the plan's blocks
 module _ (card plan : List ℕ) (n f blocks : ℕ) (is : siteOf card plan ≡ site n f blocks) (X : ℕ) (table : List ℕ) where
   -- every server below n is at that kind of block j, with the run's values, which are v at most 1 and t at most 2
   pub record Standing (j kind : ℕ) (run : Values) (states : States) : Type 0 where
@@ -42,10 +45,10 @@ module _ (card plan : List ℕ) (n f blocks : ℕ) (is : siteOf card plan ≡ si
     abbrev carried : List Carriage
     carried = carriagesOf (turn .kind) (turn .block)
 
-    -- each server's ask in the turn: the room that it lends is enough
     abbrev answer : ℕ → Asked
     answer i = askCall card plan i (states i) (replicate (length carried) 0)
 
+    -- the room that it lends is enough
     answer-is : (i : ℕ) → i < n → answer i ≡ Asked.sends (opened (standing j kind (ownOf run i))) (given (sentBy (turn .kind) run i) i carried)
     answer-is i h =
         let o = ownOf run i in
@@ -60,6 +63,7 @@ module _ (card plan : List ℕ) (n f blocks : ℕ) (is : siteOf card plan ≡ si
     abbrev arrived : ℕ → List ℕ
     arrived i = delivered X table (turn .number) (λ (j : ℕ). valuesIn (answer j)) carried i
 
+    -- every row is as its source gives it, so the commit gives the run's values
     stepped : (i : ℕ) → i < n → committed n (turn .kind) (turn .block) i (arrived i) (ownOf run i) ≡ ownOf (runTurn n X table turn run) i
     stepped i h = due .steps run (all .small) (λ (j : ℕ). valuesIn (answer j)) (λ j l. ap valuesIn (answer-is j l)) i h
 
@@ -116,6 +120,7 @@ module _ (card plan : List ℕ) (n f blocks : ℕ) (is : siteOf card plan ≡ si
         small = λ i h. (rw (v i h) (bits-at inputs bits i), rw (t i h) (omega arith));
       }
 
+-- an accepted plan and inputs of 0 and 1
 module _ (card plan inputs : List ℕ) (X : ℕ) (table : List ℕ) (n f : ℕ) (links : Links) (e : readCard card ≡ network n f links)
     (blocks carriages : ℕ) (checked : checkPlan card plan ≡ totals blocks carriages) (bits : areBits inputs ≡ true) where
   abbrev whole : List Turn

@@ -15,10 +15,11 @@ use Rattle.part.specs.Own.{carriagesOf}
 use Rattle.part.specs.Beside.{turns, runTurn, runOver}
 use Rattle.part.specs.Theorems.{Turned}
 
--- the number after the carriages of all four kinds
-kinds-long : (number : ℕ) (b : Block)
-    → number + length (carriagesOf 0x11 b) + length (carriagesOf 0x12 b) + length (carriagesOf 0x13 b) + length (carriagesOf 0x14 b)
-    ≡ number + length (Blocks.carriagesOf b)
+-- the number after the carriages of the four kinds
+abbrev counted : ℕ → Block → ℕ
+counted number b = number + length (carriagesOf 0x11 b) + length (carriagesOf 0x12 b) + length (carriagesOf 0x13 b) + length (carriagesOf 0x14 b)
+
+kinds-long : (number : ℕ) (b : Block) → counted number b ≡ number + length (Blocks.carriagesOf b)
 unfolding carriagesOf Blocks.carriagesOf
 kinds-long number b =
     let i = map carriageOf (b .inward) in
@@ -29,9 +30,10 @@ kinds-long number b =
     let z = length-append i a in
     omega arith
 
+-- the four turns of a block give what its six steps give, by computation
 pub turned : Turned
 unfolding turns runOver runTurn runBlocks runBlock carriagesOf
 turned n X table number [] s = refl
 turned n X table number (b ∷ bs) s =
-    let rest = turned n X table (number + length (carriagesOf 0x11 b) + length (carriagesOf 0x12 b) + length (carriagesOf 0x13 b) + length (carriagesOf 0x14 b)) bs (runBlock n X table number b s) in
-    rest ∙ ap (λ (k : ℕ). runBlocks n X table k bs (runBlock n X table number b s)) (kinds-long number b)
+    let after = runBlock n X table number b s in
+    turned n X table (counted number b) bs after ∙ ap (λ (k : ℕ). runBlocks n X table k bs after) (kinds-long number b)

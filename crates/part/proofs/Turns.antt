@@ -29,7 +29,6 @@ use Rattle.rules.proofs.Main.{decodes, totalled}
 use Rattle.bc.specs.Algorithm.{Choice}
 use Rattle.steps.specs.Choices.{choicesOf}
 use Rattle.steps.proofs.Planned.{planned-covers}
-use Rattle.part.specs.Own.{carriagesOf}
 use Rattle.part.specs.Calls.{fromBlock, blockOf}
 use Rattle.part.specs.Beside.{Turn, turns}
 use Rattle.part.proofs.Committed.{AsRun, inward-kind, among-kind, outward-kind, reports-kind}
@@ -79,27 +78,27 @@ module _ (n f : ℕ) (plan : List ℕ) (blocks X : ℕ) (table : List ℕ) where
   decode-chained links few (suc k) j s number e sum rules =
       let b = decodeBlock n f s in
       let l = lt-ltb j blocks (omega arith) in
-      let is : b ≡ blockOf n f plan j = ap (decodeBlock n f) (sym e) in
       let (d, g) = rules b (List·Memᴰ·head refl) in
-      let number12 = number + length (carriagesOf 0x11 b) in
-      let number13 = number12 + length (carriagesOf 0x12 b) in
-      let number14 = number13 + length (carriagesOf 0x13 b) in
       let next = from-next n f plan j ∙ ap (λ (r : List ℕ). drop (lengthOf (decodeBlock n f r)) r) e in
-      let later = decode-chained links few k (suc j) (drop (lengthOf b) s) (number14 + length (carriagesOf 0x14 b)) next (omega arith) (λ c m. rules c (List·Memᴰ·tail m)) in
-      let inside : j < blocks = omega arith in
       rw l (
-        record { inside = inside; is = (refl, refl, refl); same = refl; block = is; steps = inward-kind n f links few d b g X table number },
+        due-turn 0x11 _ (refl, refl, refl) (inward-kind n f links few d b g X table _),
         (
-          record { inside = inside; is = (refl, refl, refl); same = refl; block = is; steps = among-kind n f links few d b g X table number12 },
+          due-turn 0x12 _ (refl, refl, refl) (among-kind n f links few d b g X table _),
           (
-            record { inside = inside; is = (refl, refl, refl); same = refl; block = is; steps = outward-kind n f links few d b g X table number13 },
+            due-turn 0x13 _ (refl, refl, refl) (outward-kind n f links few d b g X table _),
             (
-              record { inside = inside; is = (refl, refl, refl); same = refl; block = is; steps = reports-kind n f links few d b g X table number14 },
-              later,
+              due-turn 0x14 _ (refl, refl, refl) (reports-kind n f links few d b g X table _),
+              decode-chained links few k (suc j) (drop (lengthOf b) s) _ next (omega arith) (λ c m. rules c (List·Memᴰ·tail m)),
             ),
           ),
         ),
       )
+    where
+      -- a turn of block j
+      due-turn : (kind number : ℕ) → IsKind kind → AsRun n X table (record { number = number; kind = kind; block = decodeBlock n f s })
+          → Due j kind (record { number = number; kind = kind; block = decodeBlock n f s })
+      due-turn kind number is steps =
+          record { inside = omega arith; is = is; same = refl; block = ap (decodeBlock n f) (sym e); steps = steps }
 
   pub plan-chained : (card : List ℕ) (links : Links) → readCard card ≡ network n f links → (carriages : ℕ) → checkPlan card plan ≡ totals blocks carriages
       → Chained 0 0x11 (turns 0 (decodePlan n f plan))
