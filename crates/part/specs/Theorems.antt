@@ -45,7 +45,7 @@ StepByStep =
     → length inputs ≡ n → areBits inputs ≡ true
     → (m i : ℕ) → i < n
     → Follows (besideOver card plan X table (take m (turns 0 (decodePlan n f plan))) (startBeside card plan inputs) i) i
-      (runOver n X table (take m (turns 0 (decodePlan n f plan))) (startValues inputs))
+    (runOver n X table (take m (turns 0 (decodePlan n f plan))) (startValues inputs))
 
 -- the state of server i after the last block
 abbrev pub ending : List ℕ → List ℕ → List ℕ → ℕ → List ℕ → ℕ → ℕ → ℕ → State
@@ -58,7 +58,7 @@ Decides =
     → length inputs ≡ n → areBits inputs ≡ true
     → (i : ℕ) → i < n → (lent : List ℕ) → 1 ≤ length lent
     → askCall card plan i (ending card plan inputs X table n f i) lent
-      ≡ sends (ending card plan inputs X table n f i) (held (runBlocks n X table 0 (decodePlan n f plan) (startValues inputs) .v) i ∷ [])
+    ≡ sends (ending card plan inputs X table n f i) (held (runBlocks n X table 0 (decodePlan n f plan) (startValues inputs) .v) i ∷ [])
 
 -- for each call to run that is answered: what a sound server shows is its byte in the lent buffer of the run
 abbrev pub ShowsTheRun : Type 0

@@ -1,0 +1,26 @@
+-- What a user of the definitions relies on, for servers that are stepped side by side.
+--     turned          the turns of a plan, taken in the run's own words, are the run
+--     step-by-step    after every kind of every block the v and t of each server are those of the run
+--     decides         at the end the ask of each server gives the v that the run leaves it with, and opens nothing
+--     shows-the-run   for a sound server that is its byte in the lent buffer of the run
+--     demand          demand 3, for what the servers show
+-- Assumes nothing.
+use Rattle.part.specs.Theorems.{Turned, StepByStep, Decides, ShowsTheRun, Demand3}
+use Rattle.part.proofs.Turned
+use Rattle.part.proofs.Followed
+use Rattle.part.proofs.Shown
+
+pub turned : Turned
+turned = Turned.turned
+
+pub step-by-step : StepByStep
+step-by-step = Followed.step-by-step
+
+pub decides : Decides
+decides = Shown.decides
+
+pub shows-the-run : ShowsTheRun
+shows-the-run = Shown.shows-the-run
+
+pub demand : Demand3
+demand = Shown.demand
