@@ -4,6 +4,7 @@ use mathlib.Core.Path.{_≡_}
 use mathlib.Core.Bool.{cond}
 use mathlib.Core.List.{List, [], _∷_, _++_}
 use Prim.Native.Nat.{ℕ}
+use lib.ListN.{length, getD}
 use Rattle.refusal.specs.Refused.{Refused, whoseOf, numberOf, placeOf}
 use Rattle.network.specs.Card.{Network, network, refused, readCard}
 use Rattle.network.specs.Links.{Links, linkedIn}
@@ -16,6 +17,10 @@ use Rattle.plan.specs.Check.{Totals, totals}
 use Rattle.plan.specs.Check as Check
 use Rattle.steps.specs.Run.{runPlan, lentAfter}
 use Rattle.steps.specs.Demand.{Agreed}
+use Rattle.part.specs.State.{State}
+use Rattle.part.specs.Calls.{Stepped, at, Asked, sends, askCall, lentAfterAsk}
+use Rattle.server.specs.Answers.{Verdict, done}
+use Rattle.server.specs.Answers as Verdicts
 
 abbrev pub refusedWords : Refused → List ℕ
 refusedWords r = 2 ∷ whoseOf r ∷ numberOf r ∷ placeOf r ∷ []
@@ -58,3 +63,30 @@ pub record RunWords (card plan inputs : List ℕ) (X : ℕ) (table lent after wo
   pub bytes : after ≡ lentAfter card plan inputs X table lent
   pub agreed : (n f : ℕ) (links : Links) → readCard card ≡ network n f links → (blocks carriages : ℕ) → runPlan card plan inputs X lent ≡ totals blocks carriages
       → Agreed n X inputs after
+
+-- a state as five words: block, kind, v, t, and 1 where an ask is open
+
+abbrev pub stateFrom : List ℕ → State
+stateFrom words = record { block = getD words 0 0; kind = getD words 1 0; v = getD words 2 0; t = getD words 3 0; asked = getD words 4 0 }
+
+abbrev pub stateRow : State → List ℕ
+stateRow s = s .block ∷ s .kind ∷ s .v ∷ s .t ∷ s .asked ∷ []
+
+abbrev pub stateWords : Verdict → State → List ℕ
+stateWords done s = 0 ∷ stateRow s
+stateWords (Verdicts.refused r) s = refusedWords r ++ 0 ∷ 0 ∷ []
+
+-- start and commit
+abbrev pub steppedWords : Stepped → List ℕ
+steppedWords (at s) = 0 ∷ stateRow s
+steppedWords (Stepped.held r) = refusedWords r ++ 0 ∷ 0 ∷ []
+
+-- ask
+abbrev pub askedWords : Asked → List ℕ
+askedWords (sends s values) = 0 ∷ stateRow s ++ length values ∷ []
+askedWords (Asked.held r) = refusedWords r ++ 0 ∷ 0 ∷ 0 ∷ []
+
+-- the words and the lent bytes after an ask
+pub record AskWords (card plan : List ℕ) (server : ℕ) (state lent after words : List ℕ) : Type 0 where
+  pub answer : words ≡ askedWords (askCall card plan server (stateFrom state) lent)
+  pub bytes : after ≡ lentAfterAsk (askCall card plan server (stateFrom state) lent) lent

@@ -12,6 +12,9 @@ use plan::check::Checked;
 use refusal::Refusal;
 use run::call;
 use run::call::Ran;
+use server::state::State;
+use server::turn;
+use server::turn::Outcome;
 use two_way::QuickAnswer;
 ghost use mathlib.Core.Path.{_≡_};
 ghost use mathlib.Core.List.{_++_};
@@ -21,7 +24,9 @@ ghost use Rattle.network.specs.Links.{linkedIn};
 ghost use Rattle.network.specs.Rows.{rowsOf};
 ghost use Rattle.network.specs.Split.{splitTest};
 ghost use Rattle.plan.specs.Check.{totals, checkPlan};
-ghost use Rattle.agreement.specs.Words.{refusedWords, cardWords, PrintWords, splitWords, QuickWords, planWords, RunWords};
+ghost use Rattle.part.specs.Calls.{startCall, commitCall};
+ghost use Rattle.server.specs.Answers.{stateOf, verdictOf};
+ghost use Rattle.agreement.specs.Words.{refusedWords, cardWords, PrintWords, splitWords, QuickWords, planWords, RunWords, stateFrom, stateWords, steppedWords, AskWords};
 ghost use Rattle.agreement.specs.Version.{version};
 
 // The version of this library: 1,000,000 * major + 1,000 * minor + patch.
@@ -29,7 +34,7 @@ ghost use Rattle.agreement.specs.Version.{version};
 pub extern "C" fn agreement_version() -> u64
     ensures { λ r. ⌜ r ≡ version ⌝ }
 {
-    4_000
+    5_000
 }
 
 // 2, what is at fault, the refusal's number, its place.
@@ -196,4 +201,97 @@ pub extern "C" fn agreement_run(
             *answer = words;
         }
     }
+}
+
+// A state from its five words: block, kind, v, t, and 1 where an ask is open.
+fn state_from(words: &[u64; 5]) -> State
+    ensures { λ r. ⌜ stateOf r ≡ stateFrom (now (words .entry)) ⌝ }
+{
+    State {
+        block: words[0],
+        kind: words[1],
+        v: words[2],
+        t: words[3],
+        asked: words[4],
+    }
+}
+
+// 0 and the five words of a state; or 2, what is at fault, the refusal's number, its place, 0, 0.
+fn state_words(outcome: Outcome, state: State) -> [u64; 6]
+    ensures { λ w. ⌜ w ≡ stateWords (verdictOf outcome) (stateOf state) ⌝ }
+{
+    match outcome {
+        Outcome::Done => [0, state.block, state.kind, state.v, state.t, state.asked],
+        Outcome::Refused(r) => {
+            let head = refused_words(r);
+            [head[0], head[1], head[2], head[3], 0, 0]
+        }
+    }
+}
+
+// Where a server starts, with its own input. The answer is 0 and the five words of its state; or 2,
+// what is at fault, the refusal's number, its place, 0, 0.
+#[no_mangle]
+pub extern "C" fn agreement_start(
+    card: &[u8],
+    plan: &[u8],
+    server: u8,
+    input: u8,
+    answer: &mut [u64; 6],
+)
+    ensures { λ r. ⌜ now (answer .exit) ≡ steppedWords (startCall (now (card .entry)) (now (plan .entry)) server input) ⌝ }
+{
+    let stepped = turn::start(card, plan, server, input);
+    let outcome = stepped.outcome;
+    let words = state_words(outcome, stepped.state);
+    *answer = words;
+}
+
+// What a server sends as source in its state's kind of a block, into the lent buffer. The answer is
+// 0, the five words of the state with its ask open, the number of values, and later lent bytes are
+// as they were; or 2, what is at fault, the refusal's number, its place, 0, 0, 0, with every lent byte
+// as it was.
+#[no_mangle]
+pub extern "C" fn agreement_ask(
+    card: &[u8],
+    plan: &[u8],
+    server: u8,
+    state: &[u64; 5],
+    lent: &mut [u8],
+    answer: &mut [u64; 7],
+)
+    ensures { λ r. ⌜ AskWords (now (card .entry)) (now (plan .entry)) server (now (state .entry)) (now (lent .entry)) (now (lent .exit)) (now (answer .exit)) ⌝ }
+{
+    let asked = turn::ask(card, plan, server, state_from(state), &mut *lent);
+    let outcome = asked.outcome;
+    let words = state_words(outcome, asked.state);
+    *answer = [
+        words[0],
+        words[1],
+        words[2],
+        words[3],
+        words[4],
+        words[5],
+        asked.values as u64,
+    ];
+}
+
+// What arrived for a server as receiver is taken in. The answer is 0 and the five words of its state
+// at the next kind, the next block or the end; or 2, what is at fault, the refusal's number, its
+// place, 0, 0.
+#[no_mangle]
+pub extern "C" fn agreement_commit(
+    card: &[u8],
+    plan: &[u8],
+    server: u8,
+    state: &[u64; 5],
+    arrived: &[u8],
+    answer: &mut [u64; 6],
+)
+    ensures { λ r. ⌜ now (answer .exit) ≡ steppedWords (commitCall (now (card .entry)) (now (plan .entry)) server (stateFrom (now (state .entry))) (now (arrived .entry))) ⌝ }
+{
+    let stepped = turn::commit(card, plan, server, state_from(state), arrived);
+    let outcome = stepped.outcome;
+    let words = state_words(outcome, stepped.state);
+    *answer = words;
 }

@@ -1,4 +1,5 @@
 -- Where the routes and reports of a block stand in its bytes, for the block of an opening command that the code has read.
+--     fault-is, ..      F, A and S of the decoded block
 --     block-inward      the routes of 11; block-among, block-outward, block-reports: the others
 --     inward-long       how many there are
 --     block-bytes       how many bytes the block takes; block-fits: they are there
@@ -17,7 +18,21 @@ use Rattle.facts.specs.Lists.{Each}
 use Rattle.rules.proofs.Groups.{routes-length}
 use Rattle.rules.proofs.Reports.{reports-length}
 use Rattle.carriage.specs.declared.opening.Opening.{Opening}
-use Rattle.carriage.specs.Openings.{Servers, ReportOf, Ready, blockAt}
+use Rattle.carriage.specs.Openings.{Servers, ReportOf, Opens, Ready, blockAt}
+
+-- F, A and S of the decoded block
+module _ (o : Opening) (s : List ℕ) (h : Opens (o .n) (o .f) s o) where
+  pub fault-is : blockAt o s .faults ≡ o .fault
+  unfolding decodeBlock
+  fault-is = sym (h .fault)
+
+  pub side-is : blockAt o s .side ≡ o .side
+  unfolding decodeBlock
+  side-is = sym (h .side)
+
+  pub quorum-is : blockAt o s .quorum ≡ o .quorum
+  unfolding decodeBlock
+  quorum-is = sym (h .quorum)
 
 module _ (o : Opening) (s : List ℕ) (r : Ready o s) where
   inward-due : o .inward ≡ inwardDue (o .f) (getD s 2 0) (getD s 3 0)

@@ -11,6 +11,10 @@
 //     p CARD PLAN                              the words of the plan check
 //     r CARD PLAN INPUTS FAULTY TABLE BUFFER   the words of the run, and the lent bytes after it
 //     t CARD PLAN RUN                          what rehearse prints
+//     o CARD PLAN SERVER INPUT                 the words of a server's start
+//     a CARD PLAN SERVER STATE BUFFER          the words of its ask, and the lent bytes after it
+//     m CARD PLAN SERVER STATE ARRIVED         the words of its commit
+// A state is its five words, three bytes each, high byte first.
 use libc::STDIN_FILENO;
 use libc::STDOUT_FILENO;
 ghost use Prim.Native.Nat.{_≤_};
@@ -79,6 +83,15 @@ fn print_words(words: [u64; 4]) {
     for i in 0..4usize {
         print_word(words[i]);
     }
+}
+
+fn print_six(words: [u64; 6]) {
+    print_word(words[0]);
+    print_word(words[1]);
+    print_word(words[2]);
+    print_word(words[3]);
+    print_word(words[4]);
+    print_word(words[5]);
 }
 
 fn print_bytes(bytes: &[u8]) {
@@ -176,6 +189,72 @@ fn transcript_case(card: &[u8], plan: &[u8], run_in: &[u8]) {
     io::write_all(STDOUT_FILENO, &text[..length]);
 }
 
+fn start_case(card: &[u8], plan: &[u8], server: &[u8], input: &[u8]) {
+    let mut answer = [9u64; 6];
+    agreement::agreement_start(
+        card,
+        plan,
+        first_byte(server),
+        first_byte(input),
+        &mut answer,
+    );
+    print_six(answer);
+    end_line();
+}
+
+fn state_word(state: &[u8]) -> u64 {
+    part_length(state) as u64
+}
+
+fn state_of(state: &[u8]) -> [u64; 5] {
+    if state.len() < 15 {
+        return [0; 5];
+    }
+    [
+        state_word(&state[0..]),
+        state_word(&state[3..]),
+        state_word(&state[6..]),
+        state_word(&state[9..]),
+        state_word(&state[12..]),
+    ]
+}
+
+fn ask_into(card: &[u8], plan: &[u8], server: u8, state: [u64; 5], lent: &mut [u8]) {
+    let mut answer = [9u64; 7];
+    agreement::agreement_ask(card, plan, server, &state, &mut *lent, &mut answer);
+    print_six([
+        answer[0],
+        answer[1],
+        answer[2],
+        answer[3],
+        answer[4],
+        answer[5],
+    ]);
+    print_word(answer[6]);
+    print_bytes(&lent[..]);
+    end_line();
+}
+
+fn ask_case(card: &[u8], plan: &[u8], server: &[u8], state: &[u8], buffer: &[u8]) {
+    let mut lent = [165u8; 256];
+    let size = lent_size(buffer);
+    ask_into(
+        card,
+        plan,
+        first_byte(server),
+        state_of(state),
+        &mut lent[..size],
+    );
+}
+
+fn commit_case(card: &[u8], plan: &[u8], server: &[u8], state: &[u8], arrived: &[u8]) {
+    let mut answer = [9u64; 6];
+    let words = state_of(state);
+    agreement::agreement_commit(card, plan, first_byte(server), &words, arrived, &mut answer);
+    print_six(answer);
+    end_line();
+}
+
 // The case of this kind that starts here; answers what follows it.
 fn answer_case(kind: u8, s: &[u8]) -> &[u8]
     ensures { λ r. ⌜ length (now r) ≤ length (now (s .entry)) ⌝ }
@@ -213,8 +292,23 @@ fn answer_case(kind: u8, s: &[u8]) -> &[u8]
     }
     let faulty = part(third);
     let fourth = after(third);
+    if kind == 111 {
+        // its third part is the server, its fourth the input
+        start_case(card, plan, inputs, faulty);
+        return fourth;
+    }
     let table = part(fourth);
     let fifth = after(fourth);
+    if kind == 97 {
+        // the server, its state and the buffer
+        ask_case(card, plan, inputs, faulty, table);
+        return fifth;
+    }
+    if kind == 109 {
+        // the server, its state and what arrived
+        commit_case(card, plan, inputs, faulty, table);
+        return fifth;
+    }
     run_case(card, plan, inputs, faulty, table, part(fifth));
     after(fifth)
 }
@@ -230,11 +324,11 @@ fn answer_all(buf: &mut [u8]) {
 }
 
 // Apart from main, so that no proof writes out all the zeros.
-fn answer_within(buf: &mut [u8; 1048576]) {
+fn answer_within(buf: &mut [u8; 2097152]) {
     answer_all(&mut *buf);
 }
 
 fn main() {
-    let mut buf = [0u8; 1048576];
+    let mut buf = [0u8; 2097152];
     answer_within(&mut buf);
 }

@@ -21,22 +21,8 @@ use Rattle.steps.specs.Steps.{Values, step1, gather, compare, step5, step6, run
 use Rattle.run.specs.Speaking.{bitsOf, worksOf}
 use Rattle.carriage.specs.Openings.{ReportOf, Readable, Runnable, OpensBy, Opens, Ready, blockAt}
 use Rattle.carriage.specs.declared.opening.Opening.{Opening}
-use Rattle.carriage.proofs.Placed.{inward-long, among-long, outward-long, reports-are}
+use Rattle.carriage.proofs.Placed.{fault-is, side-is, quorum-is, inward-long, among-long, outward-long, reports-are}
 use Rattle.carriage.proofs.Blocks.{partFrom, block-ready, block-is, bytes-are, bytes-fit}
-
--- F, A and S of the decoded block
-module _ (o : Opening) (s : List ℕ) (h : Opens (o .n) (o .f) s o) where
-  pub fault-is : blockAt o s .faults ≡ o .fault
-  unfolding decodeBlock
-  fault-is = sym (h .fault)
-
-  pub side-is : blockAt o s .side ≡ o .side
-  unfolding decodeBlock
-  side-is = sym (h .side)
-
-  pub quorum-is : blockAt o s .quorum ≡ o .quorum
-  unfolding decodeBlock
-  quorum-is = sym (h .quorum)
 
 -- the six steps
 
