@@ -11,12 +11,13 @@ use Rattle.network.proofs.Networks.{network-accepted}
 use Rattle.two_way.specs.Quick.{quickTest}
 use Rattle.plan.specs.Check.{checkPlan}
 use Rattle.steps.specs.Run.{runPlan, lentAfter}
+use Rattle.part.specs.Calls.{siteOf, startCall, askCall, commitCall}
 use Rattle.network.specs.Print.{wholeCard, cleanCard, printInto, printedIn}
 use Rattle.cards.specs.Twins.{unplaced, Alike, SeenOnce}
 use Rattle.cards.proofs.Whole.{whole-same}
 
 pub read-alike : (s t : List ℕ) → readCard s ≡ readCard t → Alike s t
-unfolding printInto printedIn cleanCard splitTest quickTest checkPlan runPlan lentAfter
+unfolding printInto printedIn cleanCard splitTest quickTest checkPlan runPlan lentAfter siteOf startCall askCall commitCall
 read-alike s t e =
     record {
       read = e;
@@ -27,6 +28,9 @@ read-alike s t e =
       check = λ plan. rw e refl;
       run = λ plan inputs faulty lent. rw e refl;
       bytes = λ plan inputs faulty table lent. rw e refl;
+      start = λ plan server input. rw e refl;
+      ask = λ plan server state lent. rw e refl;
+      commit = λ plan server state arrived. rw e refl;
     }
 
 -- a network has no place

@@ -6,6 +6,7 @@
 -- Turns      the turns of an accepted plan stand in the order in which a server goes
 -- Followed   servers stepped side by side follow the run
 -- Shown      what the servers show at the end
+-- Short      a buffer of 56 bytes is enough for every ask
 -- Main       what a user of the definitions relies on
 pub mod Turned
 pub mod Delivered
@@ -15,4 +16,5 @@ pub mod Answers
 pub mod Turns
 pub mod Followed
 pub mod Shown
+pub mod Short
 pub mod Main

@@ -14,10 +14,8 @@ use lib.Dec.{eqb}
 use lib.ListN.{length, getD, drop, replicate}
 use Rattle.sets.specs.Sets.{meet, minus, full}
 use Rattle.rules.specs.Blocks.{Block, Carriage, decodePlan}
-use Rattle.rules.specs.Blocks
 use Rattle.steps.specs.Hearing.{hit}
-use Rattle.steps.specs.Steps.{Values, valuesFrom, values, step1, gather, compare, step5, step6}
-use Rattle.steps.specs.Steps as Steps
+use Rattle.steps.specs.Steps.{Values, step1, gather, compare, step5, step6}
 use Rattle.part.specs.Own.{source, carriagesOf}
 use Rattle.part.specs.State.{State, first}
 use Rattle.part.specs.Calls.{Asked, startCall, askCall, commitCall, stateAfter, stateAsked, valuesIn}

@@ -5,6 +5,7 @@
 --     Decides     at the end the ask of each server gives one value, the v that the run leaves it with, as often as it is called, and opens nothing;
 --                 for a sound server that is its byte in the lent buffer of the run
 --     Demand3     so what the sound servers show is one bit, and some sound server's input
+--     AsksShort   an ask into a buffer of 56 bytes or more is never refused for the buffer
 use mathlib.Core.Path.{_≡_}
 use mathlib.Core.Bool.{true}
 use mathlib.Core.List.{List, [], _∷_}
@@ -20,6 +21,7 @@ use Rattle.steps.specs.Steps.{Values, held, valuesFrom, values, runBlocks}
 use Rattle.steps.specs.Run.{areBits, runPlan, lentAfter}
 use Rattle.steps.specs.Demand.{Agreed}
 use Rattle.part.specs.State.{State}
+use Rattle.refusal.specs.Refused.{call}
 use Rattle.part.specs.Calls.{Asked, sends, askCall}
 use Rattle.part.specs.Beside.{turns, besideOver, startBeside, shownBeside, runOver}
 
@@ -77,3 +79,9 @@ Demand3 =
     (card plan inputs : List ℕ) (X : ℕ) (table lent : List ℕ) (n f : ℕ) (links : Links) → readCard card ≡ network n f links
     → (blocks carriages : ℕ) → runPlan card plan inputs X lent ≡ totals blocks carriages
     → Agreed n X inputs (allShown n f card plan inputs X table)
+
+-- a buffer of 56 bytes is enough for every ask
+abbrev pub AsksShort : Type 0
+AsksShort =
+    (card plan : List ℕ) (n f : ℕ) (links : Links) → readCard card ≡ network n f links → Accepted card plan
+    → (i : ℕ) (s : State) (lent : List ℕ) → 56 ≤ length lent → askCall card plan i s lent ≡ Asked.held (call 14) → ⊥

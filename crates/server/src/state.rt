@@ -73,26 +73,27 @@ pub(crate) fn stands(n: u8, blocks: usize, server: u8, state: State) -> bool
     false
 }
 
-// The ask is open; at the end none opens.
-pub(crate) fn opened(state: State) -> State
-    ensures { λ r. ⌜ stateOf r ≡ opened (stateOf state) ⌝ }
+// The same state with another mark of an open ask.
+fn marked(state: State, asked: u64) -> State
+    ensures { λ r. ⌜ stateOf r ≡ record { block = state .block; kind = state .kind; v = state .v; t = state .t; asked = asked } ⌝ }
 {
-    if state.kind == 0x15 {
-        return State {
-            block: state.block,
-            kind: state.kind,
-            v: state.v,
-            t: state.t,
-            asked: 0,
-        };
-    }
     State {
         block: state.block,
         kind: state.kind,
         v: state.v,
         t: state.t,
-        asked: 1,
+        asked,
     }
+}
+
+// The ask is open; at the end none opens.
+pub(crate) fn opened(state: State) -> State
+    ensures { λ r. ⌜ stateOf r ≡ opened (stateOf state) ⌝ }
+{
+    if state.kind == 0x15 {
+        return marked(state, 0);
+    }
+    marked(state, 1)
 }
 
 // The next kind, the next block, or the end, with these values and no ask open.

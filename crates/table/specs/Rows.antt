@@ -20,6 +20,9 @@ use Rattle.rules.specs.Blocks.{Carriage, Block, carriageOf, decodePlan}
 use Rattle.rules.specs.Theorems.{Accepted}
 use Rattle.steps.specs.Steps.{held, gather, compare}
 use Rattle.steps.specs.Run.{runPlan, lentAfter}
+use Rattle.part.specs.State.{State}
+use Rattle.part.specs.Calls.{Stepped, Asked, startCall, askCall, commitCall, lentAfterAsk}
+use Rattle.part.specs.Theorems.{allShown}
 
 -- what is at fault (0 card, 1 plan, 2 call), the number, and the place of a card's or a plan's
 abbrev pub refusedValues : Refused → List ℕ
@@ -53,6 +56,23 @@ abbrev pub totalsValues : Check.Totals → List ℕ
 totalsValues (Check.totals blocks carriages) = 1 ∷ blocks ∷ carriages ∷ []
 totalsValues (Check.turned r) = 0 ∷ refusedValues r
 
+-- block, kind, v, t, and 1 where an ask is open
+abbrev pub stateValues : State → List ℕ
+stateValues s = s .block ∷ s .kind ∷ s .v ∷ s .t ∷ s .asked ∷ []
+
+abbrev pub at : ℕ → ℕ → ℕ → ℕ → ℕ → State
+at block kind v t asked = record { block = block; kind = kind; v = v; t = t; asked = asked }
+
+-- 1 and the state; or 0 and the refusal
+abbrev pub steppedValues : Stepped → List ℕ
+steppedValues (Stepped.at s) = 1 ∷ stateValues s
+steppedValues (Stepped.held r) = 0 ∷ refusedValues r
+
+-- 1, the state, and the lent bytes after the ask; or 0, the refusal and the lent bytes
+abbrev pub askedValues : Asked → List ℕ → List ℕ
+askedValues (Asked.sends s values) lent = 1 ∷ stateValues s ++ lentAfterAsk (Asked.sends s values) lent
+askedValues (Asked.held r) lent = 0 ∷ refusedValues r ++ lentAfterAsk (Asked.held r) lent
+
 -- a call of the library, or of one step
 pub data Call : Type 0 where
   reads : (card : List ℕ) → Call
@@ -61,10 +81,14 @@ pub data Call : Type 0 where
   quicks : (card : List ℕ) → Call
   checks : (card plan : List ℕ) → Call
   runs : (card plan inputs : List ℕ) → (faulty : ℕ) → (table lent : List ℕ) → Call
+  starts : (card plan : List ℕ) → (server input : ℕ) → Call
+  asks : (card plan : List ℕ) → (server : ℕ) → (state : State) → (lent : List ℕ) → Call
+  commits : (card plan : List ℕ) → (server : ℕ) → (state : State) → (arrived : List ℕ) → Call
+  shows : (card plan inputs : List ℕ) → (n f faulty : ℕ) → (table : List ℕ) → Call
   gathers : (faulty : ℕ) → (table : List ℕ) → (carriages : List Carriage) → (receivers : ℕ) → (t : List ℕ) → Call
   compares : (faulty : ℕ) → (table : List ℕ) → (carriages : List Carriage) → (quorum : ℕ) → (t : List ℕ) → Call
 
--- what it gives by the definitions; a card that is printed and a run give the lent bytes too
+-- what it gives by the definitions; a card that is printed, a run and an ask give the lent bytes too
 abbrev pub given : Call → List ℕ
 given (reads s) = headValues (headOf (readCard s))
 given (prints s lent) = printValues (printInto s lent) ++ printedIn s lent
@@ -72,6 +96,10 @@ given (splits s) = splitValues (splitTest s)
 given (quicks s) = quickValues (quickTest s)
 given (checks s p) = totalsValues (Check.checkPlan s p)
 given (runs s p inputs faulty table lent) = totalsValues (runPlan s p inputs faulty lent) ++ lentAfter s p inputs faulty table lent
+given (starts s p i x) = steppedValues (startCall s p i x)
+given (asks s p i state lent) = askedValues (askCall s p i state lent) lent
+given (commits s p i state arrived) = steppedValues (commitCall s p i state arrived)
+given (shows s p inputs n f faulty table) = allShown n f s p inputs faulty table
 given (gathers faulty table carriages receivers t) = gather faulty table 0 carriages receivers t
 given (compares faulty table carriages quorum t) = compare faulty table 0 carriages quorum t
 
@@ -241,6 +269,29 @@ table =
     ∷ row "a faulty server that is not in V is 13" (runs P1-card P5-plan (1 ∷ 0 ∷ []) 4 [] (9 ∷ 9 ∷ [])) (0 ∷ 2 ∷ 13 ∷ 9 ∷ 9 ∷ [])
     ∷ row "a short buffer is 14" (runs P1-card P5-plan (1 ∷ 0 ∷ []) 0 [] (9 ∷ [])) (0 ∷ 2 ∷ 14 ∷ 9 ∷ [])
     ∷ row "a refused plan comes before the call, and changes no byte" (runs P1-card P6-plan (1 ∷ []) 1 [] (9 ∷ [])) (0 ∷ 1 ∷ 7 ∷ 4 ∷ 9 ∷ [])
+    ∷ row "a server starts at 11 of the first block, t unsure" (starts P1-card P5-plan 0 1) (1 ∷ 0 ∷ 0x11 ∷ 1 ∷ 2 ∷ 0 ∷ [])
+    ∷ row "an own input of 2 is 12 before 13" (starts P1-card P5-plan 2 2) (0 ∷ 2 ∷ 12 ∷ [])
+    ∷ row "a server that is not in V is 13" (starts P1-card P5-plan 2 1) (0 ∷ 2 ∷ 13 ∷ [])
+    ∷ row "the ask of an empty kind gives nothing and opens" (asks P1-card P5-plan 0 (at 0 0x11 1 2 0) []) (1 ∷ 0 ∷ 0x11 ∷ 1 ∷ 2 ∷ 1 ∷ [])
+    ∷ row "the commit of 11 begins with step 1: server 0 is in A" (commits P1-card P5-plan 0 (at 0 0x11 1 2 1) []) (1 ∷ 0 ∷ 0x12 ∷ 1 ∷ 1 ∷ 0 ∷ [])
+    ∷ row "the ask of 13 gives t, and later lent bytes are as they were"
+    (asks P1-card P5-plan 0 (at 0 0x13 0 1 0) (9 ∷ 9 ∷ [])) (1 ∷ 0 ∷ 0x13 ∷ 0 ∷ 1 ∷ 1 ∷ 1 ∷ 9 ∷ [])
+    ∷ row "the commit of 13 ends with step 5" (commits P1-card P5-plan 1 (at 0 0x13 0 2 1) (1 ∷ [])) (1 ∷ 0 ∷ 0x14 ∷ 1 ∷ 1 ∷ 0 ∷ [])
+    ∷ row "an arrival beyond those due has no effect" (commits P1-card P5-plan 1 (at 0 0x13 0 2 1) (1 ∷ 0 ∷ [])) (1 ∷ 0 ∷ 0x14 ∷ 1 ∷ 1 ∷ 0 ∷ [])
+    ∷ row "a missing arrival is unsure, and v stays" (commits P1-card P5-plan 1 (at 0 0x13 0 1 1) []) (1 ∷ 0 ∷ 0x14 ∷ 0 ∷ 2 ∷ 0 ∷ [])
+    ∷ row "after 14 of the last block comes the end" (commits P1-card P5-plan 1 (at 0 0x14 1 1 1) []) (1 ∷ 1 ∷ 0x15 ∷ 1 ∷ 1 ∷ 0 ∷ [])
+    ∷ row "at the end the ask gives the decided bit and opens nothing"
+    (asks P1-card P5-plan 1 (at 1 0x15 1 0 0) (9 ∷ [])) (1 ∷ 1 ∷ 0x15 ∷ 1 ∷ 0 ∷ 0 ∷ 1 ∷ [])
+    ∷ row "at the end an empty buffer is 14" (asks P1-card P5-plan 1 (at 1 0x15 1 0 0) []) (0 ∷ 2 ∷ 14 ∷ [])
+    ∷ row "a commit at the end is 16" (commits P1-card P5-plan 1 (at 1 0x15 1 0 0) []) (0 ∷ 2 ∷ 16 ∷ [])
+    ∷ row "the end with an ask open is 13" (commits P1-card P5-plan 1 (at 1 0x15 1 0 1) []) (0 ∷ 2 ∷ 13 ∷ [])
+    ∷ row "a block that the plan does not have is 13" (asks P1-card P5-plan 0 (at 1 0x11 1 2 0) (9 ∷ [])) (0 ∷ 2 ∷ 13 ∷ 9 ∷ [])
+    ∷ row "a t of 3 is 13" (asks P1-card P5-plan 0 (at 0 0x11 1 3 0) (9 ∷ [])) (0 ∷ 2 ∷ 13 ∷ 9 ∷ [])
+    ∷ row "a short buffer is 14 before 16, and changes no byte" (asks P1-card P5-plan 0 (at 0 0x13 1 1 1) []) (0 ∷ 2 ∷ 14 ∷ [])
+    ∷ row "a second ask while one is open is 16" (asks P1-card P5-plan 0 (at 0 0x13 1 1 1) (9 ∷ [])) (0 ∷ 2 ∷ 16 ∷ 9 ∷ [])
+    ∷ row "a commit with none open is 16" (commits P1-card P5-plan 0 (at 0 0x11 1 2 0) []) (0 ∷ 2 ∷ 16 ∷ [])
+    ∷ row "a refused plan comes before the state" (asks P1-card P6-plan 9 (at 7 0 9 9 9) []) (0 ∷ 1 ∷ 7 ∷ 4 ∷ [])
+    ∷ row "P7 side by side: both show 1" (shows P1-card P5-plan (1 ∷ 0 ∷ []) 2 0 0 []) (1 ∷ 1 ∷ [])
     ∷ row "a second 11 route is due at f 1, and 13 is found: 7"
     (checks P3-card (opening 0x00 0x01 0x02 ++ direct 0x11 ((0, 1) ∷ []) ++ (0x13 ∷ 0x00 ∷ 0x02 ∷ 0x01 ∷ 0xff ∷ 0xff ∷ 0xff ∷ 0xff ∷ 0xff ∷ []))) (0 ∷ 1 ∷ 7 ∷ 13 ∷ [])
     ∷ row "a 13 cut off where 11 is due is 2" (checks P1-card (opening 0x00 0x02 0x01 ++ (0x13 ∷ 0x00 ∷ 0x01 ∷ []))) (0 ∷ 1 ∷ 2 ∷ 4 ∷ [])

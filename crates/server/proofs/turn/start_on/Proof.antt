@@ -1,4 +1,5 @@
--- `server::turn::start_on` meets its contract. Each answer is one lemma of `Turning`, whose premises `search` finds. Assumes nothing.
+-- `server::turn::start_on` meets its contract. Each answer is one lemma of `Turning`. Assumes nothing.
+use native.Mathlib.Omega.{arith}
 use Rattle.server.proofs.Turning.{start-12, start-13, start-on}
 use borrow.Author.Needs.{needs}
 use Rattle.server.proofs.turn.start_on.Statement.{statement}
@@ -16,13 +17,13 @@ refused-requires : tie.Need-refused-requires
 refused-requires c κs = search needs
 
 returns : tie.Need-returns
-returns c = search start-12
+returns c = start-12 _ _ _ (omega arith) _ (c .before .none .ensures) _ (c .refused .ensures)
 
 first-requires : tie.Need-first-requires
 first-requires c κs = search needs
 
 returns-2 : tie.Need-returns-2
-returns-2 c = search start-on
+returns-2 c = start-on _ _ _ (omega arith) (omega arith) _ (c .first .ensures)
 
 none-requires-2 : tie.Need-none-requires-2
 none-requires-2 c κs = search needs
@@ -31,7 +32,7 @@ refused-requires-2 : tie.Need-refused-requires-2
 refused-requires-2 c κs = search needs
 
 returns-3 : tie.Need-returns-3
-returns-3 c = search start-13
+returns-3 c = start-13 _ _ _ (omega arith) (omega arith) _ (c .before .none2 .ensures) _ (c .refused2 .ensures)
 
 pub start-on-spec : {M : Type 1} → statement M
 start-on-spec =
