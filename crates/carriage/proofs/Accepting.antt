@@ -1,6 +1,6 @@
--- What an accepted plan is to the code of a run: every read of its blocks is in range.
---     runnable            blocks that are within the rules and encode to the bytes can be run
---     accepted-runnable   so can those of an accepted plan
+-- What an accepted plan is to code that goes through its blocks: every read is in range.
+--     runnable            blocks that are within the rules and encode to the bytes can be gone through
+--     accepted-blocks     so can those of an accepted plan
 -- Assumes nothing.
 use mathlib.Core.Path.{_≡_, sym, ap, _∙_, subst}
 use mathlib.Core.List.{List, [], _∷_, _++_, append-assoc, List·Memᴰ, Memᴰ·map}
@@ -12,6 +12,7 @@ use Rattle.network.specs.Links.{Links}
 use Rattle.network.specs.Card.{network, readCard}
 use Rattle.network.proofs.Main.{card-proper}
 use Rattle.plan.specs.Due.{DueBlock, due}
+use Rattle.plan.specs.Check.{totals, checkPlan}
 use Rattle.rules.specs.Blocks.{Route, Block, encodeRoutes, encodeReports, encodeBlock, encodeBlocks, encodePlan, decodeBlock, lengthOf, decodeBlocks, decodePlan}
 use Rattle.facts.specs.Lists.{Each}
 use Rattle.rules.specs.Rules.{IsRoute, reportsTo, InBlock, InOrder}
@@ -19,7 +20,8 @@ use Rattle.rules.specs.Theorems.{Accepted}
 use Rattle.rules.proofs.Lists.{members-in}
 use Rattle.rules.proofs.Groups.{encode-long}
 use Rattle.rules.proofs.Reports.{reports-long}
-use Rattle.rules.proofs.Main.{exact, decodes}
+use Rattle.rules.proofs.Whole.{decode-length}
+use Rattle.rules.proofs.Main.{exact, decodes, totalled}
 use Rattle.carriage.specs.Openings.{Servers, ReportOf, Readable, Runnable}
 
 servers-of : (n : ℕ) (links : Links) (F : ℕ) → n ≤ 8 → (ps : List Route) → Each (IsRoute n links F) ps → Each Servers ps
@@ -74,10 +76,19 @@ module _ (n f : ℕ) (links : Links) (few : n ≤ 8) where
       let left : drop (lengthOf b) s ≡ later = ap (λ (l : List ℕ). drop (lengthOf b) l) (sym whole) ∙ ap (λ (k : ℕ). drop k (encodeBlock b ++ later)) (sym long) ∙ drop-append-seam (encodeBlock b) later in
       (readable d s (o .0) (omega arith), runnable ds (drop (lengthOf b) s) rest (o .1) (sym left))
 
-pub accepted-runnable : (card s : List ℕ) (n f : ℕ) (links : Links) → readCard card ≡ network n f links → Accepted card s
+accepted-runnable : (card s : List ℕ) (n f : ℕ) (links : Links) → readCard card ≡ network n f links → Accepted card s
     → (length s ≤ 1048576) × Runnable n f s (length (due n f))
 unfolding decodePlan encodePlan
 accepted-runnable card s n f links e a =
     let (o, p) = decodes card s n f links e a in
     let (short, bs, q, r) = exact card s n f links e .0 a in
     (short, runnable n f links (card-proper card n f links e .most) (due n f) s (0x15 ∷ []) o p)
+
+-- the same for as many blocks as the plan check tells
+pub accepted-blocks : (card s : List ℕ) (n f : ℕ) (links : Links) → readCard card ≡ network n f links → (blocks carriages : ℕ) → checkPlan card s ≡ totals blocks carriages
+    → (blocks ≡ length (due n f)) × (length s ≤ 1048576) × Runnable n f s blocks
+unfolding decodePlan
+accepted-blocks card s n f links e blocks carriages q =
+    let (short, runs) = accepted-runnable card s n f links e (blocks, carriages, q) in
+    let many = totalled card s n f links e blocks carriages q .0 ∙ decode-length n f s (length (due n f)) in
+    (many, short, rw many runs)

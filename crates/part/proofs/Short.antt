@@ -4,16 +4,15 @@
 --     kind-short           the carriages of a kind
 --     values-short         the values of an ask
 -- Assumes nothing.
-use mathlib.Core.Path.{_≡_, refl, sym, ap, _∙_}
-use mathlib.Core.Bool.{Bool, true, false, cond, not, _&&_}
-use mathlib.Core.List.{List, [], _∷_, _++_, map, List·Memᴰ, List·Memᴰ·head, List·Memᴰ·tail}
+use mathlib.Core.Path.{_≡_, refl, ap, _∙_}
+use mathlib.Core.Bool.{true, _&&_}
+use mathlib.Core.List.{List, map, List·Memᴰ, List·Memᴰ·head, List·Memᴰ·tail}
 use Prim.Native.Nat.{ℕ, zero, suc, _+_, _-_, _*_, _≤_, _<_}
 use native.Mathlib.Nat.{mul-le-mul}
 use native.Mathlib.Omega.{arith}
 use lib.Dec.{eqb, ltb}
-use lib.ListN.{length, drop, length-append, length-map}
+use lib.ListN.{length, drop, length-map}
 use borrow.Author.Tests.{le-ltb, ltb-true}
-use Rattle.facts.specs.Lists.{Each}
 use Rattle.facts.proofs.Bools.{cases, by-cond, and-left, and-right}
 use Rattle.refusal.specs.Refused.{numberOf, call}
 use Rattle.sets.specs.Sets.{size, minus, full}
@@ -21,14 +20,12 @@ use Rattle.sets.proofs.Counts.{size-le}
 use Rattle.network.specs.Links.{Links}
 use Rattle.network.specs.Card.{network, readCard}
 use Rattle.network.proofs.Main.{card-proper}
-use Rattle.plan.specs.Members.{members}
 use Rattle.plan.specs.Due.{DueBlock, due}
 use Rattle.plan.specs.Check.{totals, checkPlan}
-use Rattle.rules.specs.Blocks.{Block, Report, Carriage, carriageOf, reportFrom, reportCarriages, inwardDue, amongDue, outwardDue, routesAt, reportsAt, decodeBlock, lengthOf, decodeBlocks, decodePlan}
-use Rattle.rules.specs.Rules.{InBlock, IsReport}
-use Rattle.rules.proofs.Lists.{length-members}
+use Rattle.rules.specs.Blocks.{Carriage, carriageOf, reportCarriages, inwardDue, amongDue, outwardDue, routesAt, reportsAt, decodeBlock, lengthOf, decodeBlocks, decodePlan}
+use Rattle.rules.specs.Rules.{InBlock}
 use Rattle.rules.proofs.Groups.{routes-length}
-use Rattle.rules.proofs.Reports.{reports-length}
+use Rattle.rules.proofs.Reports.{reports-length, report-carriages}
 use Rattle.rules.proofs.Order.{order-of}
 use Rattle.rules.proofs.Whole.{decode-length}
 use Rattle.rules.proofs.Main.{decodes, totalled}
@@ -45,24 +42,16 @@ block-among-blocks n f s j zero h = absurd (omega arith)
 block-among-blocks n f s zero (suc k) h = List·Memᴰ·head refl
 block-among-blocks n f s (suc j) (suc k) h = List·Memᴰ·tail (block-among-blocks n f (drop (lengthOf (decodeBlock n f s)) s) j k (omega arith))
 
-fan-short : (x f : ℕ) → x ≤ 8 → f ≤ 2 → x * (f + 1) ≤ 24
+-- f + 1 routes to each of eight servers, and routes among eight
+
+pub fan-short : (x f : ℕ) → x ≤ 8 → f ≤ 2 → x * (f + 1) ≤ 24
 fan-short x f h g = let l : f + 1 ≤ 3 = omega arith in mul-le-mul h l
 
-report-long : (k : ℕ) (ms : List ℕ) → length (reportFrom k ms) ≡ length ms
-report-long k [] = refl
-report-long k (m ∷ ms) = ap suc (report-long k ms)
-
-reports-long : (n f : ℕ) (links : Links) (F : ℕ) (rs : List Report) → Each (IsReport n f links F) rs → length (reportCarriages rs) ≡ length rs * (f + 1)
-unfolding reportCarriages
-reports-long n f links F [] h = omega arith
-reports-long n f links F (r ∷ rs) h =
-    let a = length-append (reportFrom (r .receiver) (members (r .reporters))) (reportCarriages rs) in
-    let b = report-long (r .receiver) (members (r .reporters)) ∙ length-members (r .reporters) ∙ h r (List·Memᴰ·head refl) .exact in
-    let c = reports-long n f links F rs (λ q m. h q (List·Memᴰ·tail m)) in
-    omega arith
+pub mesh-short : (x : ℕ) → x ≤ 8 → x * (x - 1) ≤ 56
+mesh-short x h = let l : x - 1 ≤ 7 = omega arith in mul-le-mul h l
 
 -- of a block within the rules, as it is decoded
-module _ (n f : ℕ) (links : Links) (bound : f ≤ 2) (d : DueBlock) (s : List ℕ) (g : InBlock n f links d (decodeBlock n f s)) where
+module _ (n f : ℕ) (links : Links) (few : n ≤ 8) (bound : f ≤ 2) (d : DueBlock) (s : List ℕ) (g : InBlock n f links d (decodeBlock n f s)) where
   inward-short : length (map carriageOf (decodeBlock n f s .inward)) ≤ 56
   unfolding decodeBlock inwardDue
   inward-short =
@@ -76,9 +65,7 @@ module _ (n f : ℕ) (links : Links) (bound : f ≤ 2) (d : DueBlock) (s : List 
   among-short =
       let b = decodeBlock n f s in
       let a = length-map (b .among) carriageOf ∙ routes-length s _ (amongDue (b .quorum)) in
-      let q = size-le (b .quorum) in
-      let l : size (b .quorum) - 1 ≤ 7 = omega arith in
-      let c = mul-le-mul q l in
+      let c = mesh-short (size (b .quorum)) (size-le (b .quorum)) in
       omega arith
 
   outward-short : length (map carriageOf (decodeBlock n f s .outward)) ≤ 56
@@ -93,7 +80,7 @@ module _ (n f : ℕ) (links : Links) (bound : f ≤ 2) (d : DueBlock) (s : List 
   unfolding decodeBlock
   told-short =
       let b = decodeBlock n f s in
-      let a = reports-long n f links (b .faults) (b .reports) (g .reports) in
+      let a = report-carriages n f links (b .faults) few s (b .reports) (g .reports) in
       let r : length (b .reports) ≡ size (b .faults) = reports-length s _ (size (b .faults)) in
       let z : length (b .reports) ≤ 8 = let w = size-le (b .faults) in omega arith in
       let c = fan-short (length (b .reports)) f z bound in
@@ -113,7 +100,8 @@ module _ (card plan : List ℕ) (n f : ℕ) (links : Links) (e : readCard card �
       let many = totalled card plan n f links e blocks carriages q .0 ∙ decode-length n f plan (length (due n f)) in
       let order = decodes card plan n f links e (blocks, carriages, q) .0 in
       let (d, i, g) = order-of n f links (due n f) (decodePlan n f plan) order (blockOf n f plan j) (block-among-blocks n f plan j (length (due n f)) (omega arith)) in
-      kind-short n f links (card-proper card n f links e .bound) d (fromBlock n f plan j) g kind
+      let proper = card-proper card n f links e in
+      kind-short n f links (proper .most) (proper .bound) d (fromBlock n f plan j) g kind
 
   values-short : (i : ℕ) (s : State) → stands blocks s ≡ true → length (valuesDue n f plan i s) ≤ 56
   unfolding valuesDue stands placed

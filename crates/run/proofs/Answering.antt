@@ -22,14 +22,12 @@ use Rattle.plan.specs.Check.{totals, turned, checkPlan}
 use Rattle.plan.specs.Answers.{checkedOf}
 use Rattle.plan.specs.declared.check.Checked.{Checked}
 use Rattle.rules.specs.Blocks.{decodeBlocks, decodePlan}
-use Rattle.rules.proofs.Whole.{decode-length}
-use Rattle.rules.proofs.Main.{totalled}
 use Rattle.steps.specs.Steps.{held, values, runBlocks}
 use Rattle.steps.specs.Run.{checkCall, runOn, runPlan, decided, written, afterAnswer, lentAfter}
 use Rattle.carriage.specs.Openings.{Runnable}
 use Rattle.run.specs.Answers.{ranOf, Answered}
 use Rattle.run.specs.declared.call.Ran.{Ran}
-use Rattle.carriage.proofs.Accepting.{accepted-runnable}
+use Rattle.carriage.proofs.Accepting.{accepted-blocks}
 use Rattle.steps.proofs.Decides.{demand}
 
 -- the network that the card reader's answer gives, and its accepted plan
@@ -47,15 +45,17 @@ module _ (card : List ℕ) (before links : Links) (reading : Reading) (read : Re
     accepted : checkPlan card plan ≡ totals blocks carriages
     accepted = sym check ∙ ap checkedOf ok
 
+    blocks-are : (blocks ≡ length (due n f)) × (length plan ≤ 1048576) × Runnable n f plan blocks
+    blocks-are = accepted-blocks card plan n f links card-is blocks carriages accepted
+
     many : blocks ≡ length (due n f)
-    unfolding decodePlan
-    many = totalled card plan n f links card-is blocks carriages accepted .0 ∙ decode-length n f plan (length (due n f))
+    many = blocks-are .0
 
     pub call-short : length plan ≤ 1048576
-    call-short = accepted-runnable card plan n f links card-is (blocks, carriages, accepted) .0
+    call-short = blocks-are .1
 
     pub call-runs : Runnable n f plan blocks
-    call-runs = rw many (accepted-runnable card plan n f links card-is (blocks, carriages, accepted) .1)
+    call-runs = blocks-are .2
 
 module _ (card plan inputs : List ℕ) (X : ℕ) (table lent : List ℕ) where
   -- demand 3 holds of every answer that is the definition's

@@ -1,6 +1,7 @@
 -- The carriages of a kind, by their place in the block.
 --     kind-inward, ..    which they are
 --     inward-there, ..   all their bytes are there and name servers
+--     inward-few, ..     they are at most 56
 --     given-kind, ..     a count over them
 -- Assumes nothing.
 use mathlib.Core.Path.{_≡_, refl, sym, ap, _∙_}
@@ -10,11 +11,14 @@ use native.Mathlib.Omega.{arith}
 use lib.ListN.{length}
 use borrow.Author.Tests.{ne-eqb}
 use Rattle.facts.specs.Lists.{Each}
-use Rattle.rules.specs.Blocks.{Carriage, routesAt, reportsAt, carriageOf, reportCarriages}
+use Rattle.sets.specs.Sets.{minus, full, size}
+use Rattle.sets.proofs.Counts.{size-le}
+use Rattle.rules.specs.Blocks.{Carriage, routesAt, reportsAt, carriageOf, reportCarriages, inwardDue, amongDue, outwardDue}
 use Rattle.carriage.specs.declared.opening.Opening.{Opening}
 use Rattle.carriage.specs.Openings.{Servers, ReportOf, Ready, blockAt}
 use Rattle.carriage.proofs.Placed.{block-inward, block-among, block-outward, block-reports, block-fits, inward-servers, among-servers, outward-servers, reports-servers, reports-few}
 use Rattle.part.specs.Own.{given, received, carriagesOf}
+use Rattle.part.proofs.Short.{fan-short, mesh-short}
 
 module _ (o : Opening) (s : List ℕ) (r : Ready o s) (kind : ℕ) where
   pub kind-inward : kind ≡ 0x11 → map carriageOf (routesAt s 4 (o .inward)) ≡ carriagesOf kind (blockAt o s)
@@ -48,6 +52,24 @@ module _ (o : Opening) (s : List ℕ) (r : Ready o s) where
   pub reports-there : (4 + 9 * (o .inward + o .among + o .outward) + 3 * o .reports ≤ length s)
       × Each (ReportOf (o .f + 1)) (reportsAt s (4 + 9 * (o .inward + o .among + o .outward)) (o .reports)) × (o .f + 1 ≤ 8) × (o .reports ≤ 8)
   reports-there = let l = block-fits o s r in let f = r .bound in (omega arith, reports-servers o s r, omega arith, reports-few o s r)
+
+  -- no kind has more than 56 carriages
+
+  pub inward-few : o .inward ≤ 56
+  unfolding inwardDue
+  inward-few = let e = r .opens .inward in let c = fan-short (size (minus (o .quorum) (o .side))) (o .f) (size-le (minus (o .quorum) (o .side))) (r .bound) in omega arith
+
+  pub among-few : o .among ≤ 56
+  unfolding amongDue
+  among-few = let e = r .opens .among in let c = mesh-short (size (o .quorum)) (size-le (o .quorum)) in omega arith
+
+  pub outward-few : o .outward ≤ 56
+  unfolding outwardDue
+  outward-few =
+      let e = r .opens .outward in
+      let out = minus (minus (full (o .n)) (o .fault)) (o .quorum) in
+      let c = fan-short (size out) (o .f) (size-le out) (r .bound) in
+      omega arith
 
 module _ (i : ℕ) (cs ds : List Carriage) (e : cs ≡ ds) (x : ℕ) where
   pub given-kind : x ≡ length (given 0 i cs) → x ≡ length (given 0 i ds)

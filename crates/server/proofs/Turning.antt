@@ -1,6 +1,6 @@
 -- The grounds of a call and the answer where there is none, as the code meets them.
 --     site-card, ..       card and plan as the code checks them; site-open: what an accepted plan is to the code
---     sent-is, end-is     what a server sends
+--     value-.., values-.. what a server sends; filling-..: the loop that lays it down
 --     commit-is           the commit of a kind, by the sets that the opening command fixes
 --     start-..            the grounds of a start
 --     ask-..              the grounds of an ask
@@ -10,11 +10,10 @@
 use mathlib.Core.Path.{_≡_, refl, sym, ap, _∙_}
 use mathlib.Core.Bool.{Bool, true, false, cond, not, _&&_}
 use mathlib.Core.List.{List, [], _∷_, _++_}
-use Prim.Native.Nat.{ℕ, zero, suc, _+_, _≤_, _<_}
-use native.Mathlib.Numerals.{add-one}
+use Prim.Native.Nat.{ℕ, zero, suc, min, _+_, _≤_, _<_}
 use native.Mathlib.Omega.{arith}
 use lib.Dec.{eqb, ltb}
-use lib.ListN.{length, set, drop, replicate}
+use lib.ListN.{length, set, drop, replicate, length-set}
 use borrow.Author.Tests.{eq-eqb, ne-eqb, lt-ltb, le-ltb, eqb-true, ltb-true}
 use Rattle.facts.proofs.Bools.{cases, and-left, and-right}
 use Rattle.refusal.specs.Refused.{Refused, call, refusalOf}
@@ -28,16 +27,13 @@ use Rattle.network.specs.Answers as Reader
 use Rattle.network.specs.declared.card.Reading.{Reading}
 use Rattle.network.proofs.Heads.{network-is, refused-of}
 use Rattle.network.proofs.Main.{card-proper}
-use Rattle.plan.specs.Due.{due}
 use Rattle.plan.specs.Check.{Totals, totals, turned, checkPlan}
 use Rattle.plan.specs.Answers.{checkedOf}
 use Rattle.plan.specs.declared.check.Checked.{Checked}
-use Rattle.rules.specs.Blocks.{Block, Carriage, decodePlan}
-use Rattle.rules.proofs.Whole.{decode-length}
-use Rattle.rules.proofs.Main.{totalled}
+use Rattle.rules.specs.Blocks.{Block, Carriage}
 use Rattle.carriage.specs.declared.opening.Opening.{Opening}
 use Rattle.carriage.specs.Openings.{Runnable, Opens, Ready, blockAt}
-use Rattle.carriage.proofs.Accepting.{accepted-runnable}
+use Rattle.carriage.proofs.Accepting.{accepted-blocks}
 use Rattle.carriage.proofs.Placed.{fault-is, side-is, quorum-is}
 use Rattle.part.specs.Own.{source, Own, sent, given, received, carriagesOf, commit11, commit12, commit13, commit14, committed}
 use Rattle.part.specs.State.{State, first, isEnd, placed, stands, opened, next}
@@ -71,13 +67,12 @@ module _ (n f blocks : ℕ) where
   open-of (network m g links) (totals k carriages) e = record { links = links; carriages = carriages; card = cc; plan = cc }
 
 pub site-open : (card plan : List ℕ) (n f blocks : ℕ) → site n f blocks ≡ siteOf card plan → Opened n f plan blocks
-unfolding siteOf decodePlan
+unfolding siteOf
 site-open card plan n f blocks e =
     let o = open-of n f blocks (readCard card) (checkPlan card plan) (sym e) in
     let p = card-proper card n f (o .links) (o .card) in
-    let a = accepted-runnable card plan n f (o .links) (o .card) (blocks, o .carriages, o .plan) in
-    let many : blocks ≡ length (due n f) = totalled card plan n f (o .links) (o .card) blocks (o .carriages) (o .plan) .0 ∙ decode-length n f plan (length (due n f)) in
-    record { few = p .most; bound = p .bound; short = a .0; runs = rw many (a .1) }
+    let (many, short, runs) = accepted-blocks card plan n f (o .links) (o .card) blocks (o .carriages) (o .plan) in
+    record { few = p .most; bound = p .bound; short = short; runs = runs }
 
 module _ (card plan : List ℕ) (before links : Links) (reading : Reading) (read : Reader.Answered card before reading links) where
   pub site-card : (g : Refusal) → reading ≡ Reading.Refused g → closed (refusalOf g) ≡ siteOf card plan
@@ -172,8 +167,32 @@ filled x i [] h = absurd (omega arith)
 filled x zero (y ∷ lent) h = refl
 filled x (suc i) (y ∷ lent) h = ap (λ (l : List ℕ). x ∷ l) (filled x i lent (omega arith))
 
-pub filled-more : (x i : ℕ) (lent now : List ℕ) → i < length lent → now ≡ replicate i x ++ drop i lent → set now i x ≡ replicate (i + 1) x ++ drop (i + 1) lent
-filled-more x i lent now h e = rw (e, add-one i) (filled x i lent h)
+-- the first i of `count` bytes are filled, all of them where i is past the last
+pub record Filling (x count : ℕ) (lent : List ℕ) (i : ℕ) (now : List ℕ) : Type 0 where
+  pub most : i ≤ 56
+  pub long : length now ≡ length lent
+  pub same : now ≡ replicate (min i count) x ++ drop (min i count) lent
+
+pub filling-starts : (x count : ℕ) (lent : List ℕ) → Filling x count lent 0 lent
+filling-starts x count lent = let z : min 0 count ≡ 0 = omega arith in record { most = omega arith; long = refl; same = rw z refl }
+
+module _ (x count : ℕ) (lent : List ℕ) (i : ℕ) (now : List ℕ) (so : Filling x count lent i now) where
+  pub filling-goes : i < 56 → i < count → count ≤ length lent → Filling x count lent (i + 1) (set now i x)
+  filling-goes l h fits =
+      let a : min i count ≡ i = omega arith in
+      let b : min (i + 1) count ≡ suc i = omega arith in
+      let e = rw a at (so .same) in
+      record { most = omega arith; long = length-set now i x ∙ so .long; same = rw (b, e) (filled x i lent (omega arith)) }
+
+  pub filling-passes : i < 56 → count ≤ i → Filling x count lent (i + 1) now
+  filling-passes l h =
+      let a : min i count ≡ count = omega arith in
+      let b : min (i + 1) count ≡ count = omega arith in
+      let e = rw a at (so .same) in
+      record { most = omega arith; long = so .long; same = rw b e }
+
+  pub filling-ends : 56 ≤ i → count ≤ 56 → now ≡ replicate count x ++ drop count lent
+  filling-ends l h = let a : min i count ≡ count = omega arith in rw a at (so .same)
 
 -- the commit of a kind
 

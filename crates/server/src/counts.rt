@@ -85,7 +85,7 @@ fn reports_to(block: &[u8], place: usize, count: usize, server: u8, each: usize)
 // The carriages of this kind whose source is the server.
 pub(crate) fn sent(opening: Opening, block: &[u8], kind: u64, server: u8) -> usize
     requires { ⌜ Ready opening (now block) ⌝ }
-    ensures { λ r. ⌜ r ≡ length (given 0 server (carriagesOf kind (blockAt opening (now (block .entry))))) ⌝ }
+    ensures { λ r. ⌜ (r ≡ length (given 0 server (carriagesOf kind (blockAt opening (now (block .entry)))))) × (r ≤ 56) ⌝ }
 {
     if kind == 0x11 {
         return routes_from(block, 4, opening.inward, server);

@@ -82,7 +82,7 @@ fn block_at(n: u8, f: u8, plan: &[u8], j: usize) -> usize
 // How many values the server sends: at the end one, the decided bit.
 fn values_due(n: u8, f: u8, plan: &[u8], server: u8, state: State) -> usize
     requires { ⌜ ((state .kind ≡ 0x15 → ⊥) → Opened n f (now plan) (state .block + 1)) ⌝ }
-    ensures { λ r. ⌜ r ≡ length (valuesDue n f (now (plan .entry)) server (stateOf state)) ⌝ }
+    ensures { λ r. ⌜ (r ≡ length (valuesDue n f (now (plan .entry)) server (stateOf state))) × (r ≤ 56) ⌝ }
 {
     if state.kind == 0x15 {
         return 1;
@@ -111,13 +111,17 @@ fn value(state: State) -> u8
     state.t as u8
 }
 
-// The value, so many times; later bytes are left as they are.
+// The value, so many times; later bytes are left as they are. No kind of a block has more than 56
+// carriages. The loop goes that far since one of `count` turns would become a call of the C
+// library's memset, and this library calls nothing.
 fn fill(lent: &mut [u8], count: usize, value: u8)
-    requires { ⌜ count ≤ length (now lent) ⌝ }
+    requires { ⌜ (count ≤ length (now lent)) × (count ≤ 56) ⌝ }
     ensures { λ r. ⌜ now (lent .exit) ≡ replicate count value ++ drop count (now (lent .entry)) ⌝ }
 {
-    for i in 0..count {
-        lent[i] = value;
+    for i in 0..56usize {
+        if i < count {
+            lent[i] = value;
+        }
     }
 }
 

@@ -1,6 +1,7 @@
 -- `server::counts::sent` meets its contract: the carriages of each kind stand at their place in the block (`Carrying`). Assumes nothing.
+use native.Mathlib.Omega.{arith}
 use borrow.Author.Needs.{needs}
-use Rattle.server.proofs.Carrying.{inward-there, among-there, outward-there, reports-there, kind-inward, kind-among, kind-outward, kind-reports, given-kind}
+use Rattle.server.proofs.Carrying.{inward-there, among-there, outward-there, reports-there, kind-inward, kind-among, kind-outward, kind-reports, given-kind, inward-few, among-few, outward-few}
 use Rattle.server.proofs.counts.sent.Statement.{statement}
 use Rattle.server.proofs.counts.sent.Tie as tie
 use Rattle.server.proofs.counts.sent.Reads as reads
@@ -13,7 +14,9 @@ routes-from-requires : tie.Need-routes-from-requires
 routes-from-requires c κs = inward-there _ _ (c .before .before .pre)
 
 returns : tie.Need-returns
-returns c = given-kind _ _ _ (kind-inward _ _ (c .before .before .before .pre) _ (c .before .if1 .taken)) _ (c .routes-from .ensures .0)
+returns c =
+    let p = c .before .before .before .pre in
+    (given-kind _ _ _ (kind-inward _ _ p _ (c .before .if1 .taken)) _ (c .routes-from .ensures .0), let l = inward-few _ _ p in omega (arith, c .routes-from .ensures .1))
 
 add-two : tie.Need-add-two
 add-two c = search needs
@@ -31,7 +34,8 @@ routes-from-requires-2 c κs = among-there _ _ (c .before .before .before .befor
 returns-2 : tie.Need-returns-2
 returns-2 c =
     let d = c .before .before in
-    given-kind _ _ _ (kind-among _ _ (d .before .before .before .before .pre) _ (d .before .before .if1 .left) (d .if2 .taken)) _ (c .routes-from2 .ensures .0)
+    let p = d .before .before .before .before .pre in
+    (given-kind _ _ _ (kind-among _ _ p _ (d .before .before .if1 .left) (d .if2 .taken)) _ (c .routes-from2 .ensures .0), let l = among-few _ _ p in omega (arith, c .routes-from2 .ensures .1))
 
 mul-routes-from-2 : tie.Need-mul-routes-from-2
 mul-routes-from-2 c = search needs
@@ -46,7 +50,8 @@ routes-from-requires-3 c κs = outward-there _ _ (c .before .before .before .bef
 returns-3 : tie.Need-returns-3
 returns-3 c =
     let d = c .before .before in
-    given-kind _ _ _ (kind-outward _ _ (d .before .before .before .before .pre) _ (d .before .before .if1 .left) (d .if2 .left) (c .before .if3 .taken)) _ (c .routes-from3 .ensures .0)
+    let p = d .before .before .before .before .pre in
+    (given-kind _ _ _ (kind-outward _ _ p _ (d .before .before .if1 .left) (d .if2 .left) (c .before .if3 .taken)) _ (c .routes-from3 .ensures .0), let l = outward-few _ _ p in omega (arith, c .routes-from3 .ensures .1))
 
 add-three : tie.Need-add-three
 add-three c = search needs
@@ -64,7 +69,8 @@ reports-from-requires c κs = reports-there _ _ (c .before .before .before .befo
 returns-4 : tie.Need-returns-4
 returns-4 c =
     let d = c .before .before in
-    given-kind _ _ _ (kind-reports _ _ (d .before .before .before .before .before .pre) _ (d .before .before .before .if1 .left) (d .before .if2 .left) (d .if3 .left)) _ (c .reports-from .ensures .0)
+    let p = d .before .before .before .before .before .pre in
+    (given-kind _ _ _ (kind-reports _ _ p _ (d .before .before .before .if1 .left) (d .before .if2 .left) (d .if3 .left)) _ (c .reports-from .ensures .0), let l = reports-there _ _ p .3 in omega (arith, c .reports-from .ensures .1))
 
 pub sent-spec : {M : Type 1} → statement M
 sent-spec =

@@ -1,25 +1,23 @@
--- `server::turn::fill` meets its contract. The invariant of its loop: so many bytes are filled, the later ones are as they were. The measure is how
--- many are left. Assumes nothing.
-use mathlib.Core.Path.{_≡_, refl}
-use mathlib.Core.List.{_++_}
-use Prim.Native.Nat.{_-_, _≤_}
+-- `server::turn::fill` meets its contract. The invariant of its loop, `Filling`: so many of the bytes due are filled, the later ones are as they were. The
+-- measure is how many of 56 are left. Assumes nothing.
+use mathlib.Core.Logic.{⊎-elim}
+use Prim.Native.Nat.{_-_}
 use native.Mathlib.Omega.{arith}
-use lib.ListN.{length, drop, replicate, length-set}
-use Rattle.server.proofs.Turning.{filled-more}
 use borrow.Author.Needs.{needs}
+use Rattle.server.proofs.Turning.{Filling, filling-starts, filling-goes, filling-passes, filling-ends}
 use Rattle.server.proofs.turn.fill.Statement.{statement}
 use Rattle.server.proofs.turn.fill.Tie as tie
 use Rattle.server.proofs.turn.fill.Reads as reads
 use Rattle.server.proofs.turn.fill.Lts as lts
 
 abbrev Inv-loop : tie.InvT-loop
-Inv-loop lent₀ count value i₀ lent i = (i ≤ count) × (length lent ≡ length lent₀) × (lent ≡ replicate i value ++ drop i lent₀)
+Inv-loop lent₀ count value i₀ lent i = Filling value count lent₀ i lent
 
 abbrev μ-loop : tie.MeasureT-loop
-μ-loop lent₀ count value i₀ lent i = count - i
+μ-loop lent₀ count value i₀ lent i = 56 - i
 
 loop-holds : tie.Need-loop-holds Inv-loop μ-loop
-loop-holds c = (omega arith, refl, refl)
+loop-holds c = search filling-starts
 
 slice-write-lent : tie.Need-slice-write-lent Inv-loop μ-loop
 slice-write-lent c = search needs
@@ -31,13 +29,19 @@ loop-less : tie.Need-loop-less Inv-loop μ-loop
 loop-less c = search needs
 
 loop-again : tie.Need-loop-again Inv-loop μ-loop
-loop-again c = let l = c .before .loop .inv in (omega arith, simp length-set (l .1), filled-more _ _ _ _ (omega arith) (l .2))
+loop-again c =
+    let l = c .before .before .loop .inv in
+    let t = c .before .loop-test .taken in
+    ⊎-elim
+    (λ w. rw (w .1) (filling-goes _ _ _ _ _ l t (w .0 .taken) (search needs)))
+    (λ w. rw (w .1) (filling-passes _ _ _ _ _ l t (w .0 .left)))
+    (c .if1 .came)
 
 same-length : tie.Need-same-length Inv-loop μ-loop
 same-length c = search needs
 
 returns : tie.Need-returns Inv-loop μ-loop
-returns c = let l = c .before .loop .inv in let e : c .before .loop .i ≡ c .before .before .args .count = omega arith in rw e at (l .2)
+returns c = search filling-ends
 
 pub fill-spec : {M : Type 1} → statement M
 fill-spec =

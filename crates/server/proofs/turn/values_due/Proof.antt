@@ -28,7 +28,7 @@ block-here : (c : tie.After-read-opening) → let a = c .before .before .before 
 block-here c = let o = opened c in search here-is
 
 returns : tie.Need-returns
-returns c = search values-end
+returns c = (search values-end, search needs)
 
 block-at-requires : tie.Need-block-at-requires
 block-at-requires c κs = c .before .before .before .pre (c .if1 .left)
@@ -52,7 +52,7 @@ sent-requires : tie.Need-sent-requires
 sent-requires c κs = ready c
 
 returns-2 : tie.Need-returns-2
-returns-2 c = values-sent _ _ _ _ _ (c .before .before .before .before .before .before .if1 .left) _ _ (c .sent .ensures) (block-here (c .before))
+returns-2 c = (values-sent _ _ _ _ _ (c .before .before .before .before .before .before .if1 .left) _ _ (c .sent .ensures .0) (block-here (c .before)), c .sent .ensures .1)
 
 pub values-due-spec : {M : Type 1} → statement M
 values-due-spec =
