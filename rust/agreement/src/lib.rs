@@ -18,6 +18,13 @@
 //! # Ok::<(), agreement::Refusal>(())
 //! ```
 //!
+//! # In a live network
+//!
+//! A [`Server`] knows only itself. It asks what to send, commits what arrived, kind by kind
+//! and block by block, and has the decided bit at the end; its types keep asks and commits in
+//! turn. [`start`], [`ask`] and [`commit`] are the same on a [`State`] that the caller keeps
+//! and may store.
+//!
 //! # Linking
 //!
 //! Inside the library's repository the archive is looked for where
