@@ -314,6 +314,14 @@ mod tests {
         assert_eq!(ran_or_refusal([2, 2, 13, 0]), Some(Err(FAULT_SET)));
     }
 
+    /// The words of a refusal: whose, number, place.
+    fn refused<const N: usize>(refusal: [u64; 3]) -> [u64; N] {
+        let mut answer = [0; N];
+        answer[0] = 2;
+        answer[1..4].copy_from_slice(&refusal);
+        answer
+    }
+
     #[test]
     fn words_of_a_start_become_the_answers_they_stand_for() {
         for input in 0..=1 {
@@ -327,8 +335,7 @@ mod tests {
             ([2, 12, 0], INPUTS),
             ([2, 13, 0], FAULT_SET),
         ] {
-            let [whose, number, place] = refusal;
-            let answer = started_or_refusal([2, whose, number, place, 0, 0]);
+            let answer = started_or_refusal(refused(refusal));
             assert_eq!(answer, Some(Err(expected)));
         }
     }
@@ -353,8 +360,7 @@ mod tests {
             ([2, 14, 0], SHORT_BUFFER),
             ([2, 16, 0], OUT_OF_TURN),
         ] {
-            let [whose, number, place] = refusal;
-            let answer = asked_or_refusal([2, whose, number, place, 0, 0, 0]);
+            let answer = asked_or_refusal(refused(refusal));
             assert_eq!(answer, Some(Err(expected)));
         }
     }
@@ -377,8 +383,7 @@ mod tests {
             ([2, 13, 0], FAULT_SET),
             ([2, 16, 0], OUT_OF_TURN),
         ] {
-            let [whose, number, place] = refusal;
-            let answer = committed_or_refusal([2, whose, number, place, 0, 0]);
+            let answer = committed_or_refusal(refused(refusal));
             assert_eq!(answer, Some(Err(expected)));
         }
     }

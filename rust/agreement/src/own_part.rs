@@ -6,8 +6,8 @@ use crate::answers::{self, UNWRITTEN};
 use crate::{library, CallGround, Refusal};
 use std::fmt::{self, Debug, Formatter};
 
-/// How many values a server has to send at most in one kind of a block: a buffer of so many
-/// bytes is never too short for [`ask`].
+/// How many carriages one kind of a block has at most: a buffer of so many bytes is never
+/// too short for [`ask`].
 pub const VALUES_LIMIT: usize = 56;
 
 /// Where a server stands between two calls, and what it holds: five words of any size, which

@@ -4,6 +4,8 @@ use crate::plans::PLAN_LIMIT;
 use generate::{
     aimed_table, carriages, complete_card, damaged_plan, good_card, table, Carriage, Rng, AIMS,
 };
+use std::fmt::Arguments;
+use std::ops::Range;
 
 /// Command bytes of the plan.
 pub(crate) const BLOCK: u8 = 0x10;
@@ -67,7 +69,7 @@ impl Planned {
     /// A card and a plan of which one is refused, most of the time, by `number` in turn: a
     /// random card, the card of another network, a damaged plan, now and then one that is
     /// too long.
-    pub fn at_fault(&self, rng: &mut Rng, number: usize) -> (Vec<u8>, Vec<u8>) {
+    fn at_fault(&self, rng: &mut Rng, number: usize) -> (Vec<u8>, Vec<u8>) {
         let damaged = damaged_plan(rng, &self.card, &self.plan);
         let any_card = generate::card(rng);
         let other_card = complete_card(2 + rng.below(7) as u8, rng.below(3) as u8);
@@ -76,6 +78,25 @@ impl Planned {
             1 => (other_card, self.plan.clone()),
             2 if rng.below(8) == 0 => (self.card.clone(), vec![BLOCK; PLAN_LIMIT + 1]),
             _ => (self.card.clone(), damaged),
+        }
+    }
+}
+
+/// For each seed a small network with an accepted plan, and `times` calls on a card and a
+/// plan of which one is refused, most of the time; how each was made is told.
+pub(crate) fn each_at_fault(
+    seeds: Range<u64>,
+    times: usize,
+    mut call: impl FnMut(&Planned, &mut Rng, &[u8], &[u8], Arguments),
+) {
+    for seed in seeds {
+        let mut rng = Rng::new(seed);
+        let (n, f) = SMALL[seed as usize % SMALL.len()];
+        let planned = Planned::draw(&mut rng, n, f);
+        for number in 0..times {
+            let (card, plan) = planned.at_fault(&mut rng, number);
+            let made_by = format_args!("each_at_fault, seed {seed}, call {number}");
+            call(&planned, &mut rng, &card, &plan, made_by);
         }
     }
 }

@@ -1,7 +1,7 @@
 //! The calls on which library and reference are compared.
 
 use super::tally::{Call, Tally};
-use crate::planned::{any_bits, input_bits, Planned, BLOCK, NEIGHBOURS, SMALL};
+use crate::planned::{any_bits, each_at_fault, input_bits, Planned, BLOCK, NEIGHBOURS};
 use crate::plans::PLAN_LIMIT;
 use crate::repeated;
 use generate::{
@@ -296,26 +296,20 @@ pub fn wrong_calls(n: u8, f: u8) -> Tally {
 /// networks, plans that are too long.
 pub fn refused_plans(seeds: Range<u64>, times: usize) -> Tally {
     let mut tally = Tally::default();
-    for seed in seeds {
-        let mut rng = Rng::new(seed);
-        let (n, f) = SMALL[seed as usize % SMALL.len()];
-        let planned = Planned::draw(&mut rng, n, f);
-        for number in 0..times {
-            let (card, plan) = planned.at_fault(&mut rng, number);
-            let inputs = inputs(&mut rng, n);
-            let faulty = faulty(&mut rng, n, f);
-            let (table, kind) = planned.any_table(&mut rng, &inputs);
-            let call = Call {
-                card: &card,
-                plan: &plan,
-                inputs: &inputs,
-                faulty,
-                table: &table,
-                lent: lent(&mut rng, n.into()),
-            };
-            let made_by = format_args!("refused_plans, seed {seed}, call {number}, {kind} table");
-            tally.compare(&call, made_by);
-        }
-    }
+    each_at_fault(seeds, times, |planned, rng, card, plan, made_by| {
+        let Planned { n, f, .. } = *planned;
+        let inputs = inputs(rng, n);
+        let faulty = faulty(rng, n, f);
+        let (table, _) = planned.any_table(rng, &inputs);
+        let call = Call {
+            card,
+            plan,
+            inputs: &inputs,
+            faulty,
+            table: &table,
+            lent: lent(rng, n.into()),
+        };
+        tally.compare(&call, made_by);
+    });
     tally
 }

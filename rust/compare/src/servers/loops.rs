@@ -1,9 +1,10 @@
 //! The calls for a server on which library and reference are compared.
 
 use super::tally::{state, Call, Tally, What, END, KINDS};
-use crate::planned::{Planned, SMALL};
+use crate::planned::{each_at_fault, Planned};
 use generate::{arrived, lent, own_input, server, Carriage, Rng};
 use reference::State;
+use std::fmt::Arguments;
 use std::ops::Range;
 
 impl Planned {
@@ -44,7 +45,7 @@ impl Planned {
         tally: &mut Tally,
         rng: &mut Rng,
         (card, plan): (&[u8], &[u8]),
-        made_by: &str,
+        made_by: Arguments,
     ) {
         let server = server(rng, self.n);
         let any_state = |rng: &mut Rng, open| state(generate::state(rng, self.blocks(), open));
@@ -72,7 +73,7 @@ impl Planned {
             plan,
             ..self.own_call(server, what)
         };
-        tally.compare(&call, format_args!("{made_by}"));
+        tally.compare(&call, made_by);
     }
 }
 
@@ -85,9 +86,9 @@ pub fn any_calls(n: u8, f: u8, seeds: Range<u64>, times: usize) -> Tally {
         let mut rng = Rng::new(seed);
         let planned = Planned::draw(&mut rng, n, f);
         for number in 0..times {
-            let made_by = format!("any_calls, n {n} f {f} seed {seed}, call {number}");
+            let made_by = format_args!("any_calls, n {n} f {f} seed {seed}, call {number}");
             let site = (&planned.card[..], &planned.plan[..]);
-            planned.compare_any(&mut tally, &mut rng, site, &made_by);
+            planned.compare_any(&mut tally, &mut rng, site, made_by);
         }
     }
     tally
@@ -97,16 +98,9 @@ pub fn any_calls(n: u8, f: u8, seeds: Range<u64>, times: usize) -> Tally {
 /// arrivals that may be wrong as well.
 pub fn refused_sites(seeds: Range<u64>, times: usize) -> Tally {
     let mut tally = Tally::default();
-    for seed in seeds {
-        let mut rng = Rng::new(seed);
-        let (n, f) = SMALL[seed as usize % SMALL.len()];
-        let planned = Planned::draw(&mut rng, n, f);
-        for number in 0..times {
-            let (card, plan) = planned.at_fault(&mut rng, number);
-            let made_by = format!("refused_sites, seed {seed}, call {number}");
-            planned.compare_any(&mut tally, &mut rng, (&card, &plan), &made_by);
-        }
-    }
+    each_at_fault(seeds, times, |planned, rng, card, plan, made_by| {
+        planned.compare_any(&mut tally, rng, (card, plan), made_by);
+    });
     tally
 }
 
