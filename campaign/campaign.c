@@ -13,8 +13,9 @@
  * there or its own, a refused card's are empty, a printed card has the links of its rows in order, is
  * read as the same rows and stays as it is when printed again, the quick test answers exactly the cards
  * whose links all have a return, by its numbers and as the split test does, no lent byte past what is
- * written is changed, a refused call changes none, and the bits of the servers that are not faulty are
- * equal and some such server's input.
+ * written is changed, a refused call changes none, the bits of the servers that are not faulty are equal
+ * and some such server's input, and a server's start, asks and commits refuse what they should and else
+ * lead from kind to kind, with no value sent but its own.
  */
 #include "agreement.h"
 
@@ -24,6 +25,7 @@
 #include <string.h>
 
 enum { MOST = 70000, POOL = 2048, LENT_MOST = 16, UNTOUCHED = 0xA5, CLEAN_MOST = AGREEMENT_CLEAN_CARD_LIMIT + 20 };
+enum { VALUES_MOST = AGREEMENT_VALUES_LIMIT + 4, ARRIVED_MOST = 12, TURNS = 6 };
 
 static uint64_t state;
 
@@ -285,6 +287,166 @@ static void hold_run(const uint64_t answer[4], const uint8_t *lent, size_t size,
         fail("the bit is no sound server's input");
 }
 
+/* A server with its card and plan, and what the plan check says of these. */
+struct server {
+    struct list card, plan;
+    const uint64_t *network, *checked;
+    uint8_t number;
+};
+
+static int is_there(struct server server)
+{
+    return server.number < server.network[1];
+}
+
+/* Whether a server can be in a state of these words: block, kind, v, t, open. */
+static int is_state(struct server server, const uint64_t words[AGREEMENT_STATE_WORDS])
+{
+    uint64_t blocks = server.checked[1];
+    if (words[2] > 1 || words[3] > 2 || words[4] > 1)
+        return 0;
+    if (words[1] == AGREEMENT_END)
+        return words[0] == blocks && words[4] == 0;
+    return words[0] < blocks && words[1] >= AGREEMENT_TO_QUORUM && words[1] <= AGREEMENT_REPORTS;
+}
+
+/* Holds a call for a server to the refusal that is due: the site's, or else the call's of this number,
+   or none where that is 0. Says whether there is one. */
+static int hold_refused(struct server server, const uint64_t *answer, size_t words, uint64_t number)
+{
+    uint64_t due[7] = {AGREEMENT_REFUSED, AGREEMENT_CALL, number};
+    int of_site = server.checked[0] != AGREEMENT_ANSWERED;
+    if (of_site)
+        memcpy(due, server.checked, 4 * sizeof *due);
+    if (!of_site && number == 0) {
+        if (answer[0] != AGREEMENT_ANSWERED)
+            fail("a call for a server is refused that should not be");
+        return 0;
+    }
+    if (memcmp(answer, due, words * sizeof *due) != 0)
+        fail("a call for a server has another refusal than it should");
+    return 1;
+}
+
+/* How many asks and commits were answered. */
+static uint64_t turns;
+
+static void call_start(struct server server, uint64_t answer[6])
+{
+    uint8_t input = (uint8_t)draw(draw(8) == 0 ? 256 : 2);
+    agreement_start(start_of(server.card), server.card.length, start_of(server.plan), server.plan.length,
+                    server.number, input, answer);
+    const uint64_t first[6] = {AGREEMENT_ANSWERED, 0, AGREEMENT_TO_QUORUM, input, 2, 0};
+    uint64_t number = input > 1 ? AGREEMENT_BAD_INPUTS : is_there(server) ? 0 : AGREEMENT_BAD_FAULTY_SET;
+    if (!hold_refused(server, answer, 6, number) && memcmp(answer, first, sizeof first) != 0)
+        fail("a server does not start at the start");
+}
+
+/* Asks in a state that lies in a block of just its words, with any number of bytes lent. */
+static void call_ask(struct server server, const uint64_t *words, uint64_t answer[7])
+{
+    static uint8_t untouched[VALUES_MOST];
+    memset(untouched, UNTOUCHED, sizeof untouched);
+    struct list lent = list_of(untouched, draw(2) == 0 ? AGREEMENT_VALUES_LIMIT + draw(4) : draw(10));
+    agreement_ask(start_of(server.card), server.card.length, start_of(server.plan), server.plan.length,
+                  server.number, words, start_of(lent), lent.length, answer);
+    int is_end = words[1] == AGREEMENT_END, is_short = answer[2] == AGREEMENT_SHORT_BUFFER;
+    uint64_t number = 0;
+    if (!is_there(server) || !is_state(server, words))
+        number = AGREEMENT_BAD_FAULTY_SET;
+    else if (answer[0] == AGREEMENT_REFUSED && is_short && lent.length < (is_end ? 1 : AGREEMENT_SERVERS))
+        number = AGREEMENT_SHORT_BUFFER; /* there is at most one value for each other server */
+    else if (words[4] == 1)
+        number = AGREEMENT_OUT_OF_TURN;
+    size_t written = 0;
+    if (!hold_refused(server, answer, 7, number)) {
+        const uint64_t asked[5] = {words[0], words[1], words[2], words[3], !is_end};
+        int sends_t = words[1] == AGREEMENT_WITHIN_QUORUM || words[1] == AGREEMENT_FROM_QUORUM;
+        written = (size_t)answer[6];
+        if (memcmp(answer + 1, asked, sizeof asked) != 0)
+            fail("an ask changed more than its mark");
+        if (written > lent.length || (is_end && written != 1))
+            fail("an ask gave another number of values than it can");
+        for (size_t i = 0; i < written; i++)
+            if (lent.bytes[i] != words[sends_t ? 3 : 2])
+                fail("a server sends what it does not hold");
+        turns++;
+    }
+    if (memcmp(start_of(lent) + written, untouched, lent.length - written) != 0)
+        fail("a byte was written that is no value");
+    free(lent.bytes);
+}
+
+/* Commits any arrivals in a state that lies in a block of just its words. */
+static void call_commit(struct server server, const uint64_t *words, uint64_t answer[6])
+{
+    uint8_t bytes[ARRIVED_MOST];
+    for (size_t i = 0; i < sizeof bytes; i++)
+        bytes[i] = draw(8) == 0 ? any_byte() : (uint8_t)draw(2);
+    struct list arrived = list_of(bytes, draw(sizeof bytes));
+    agreement_commit(start_of(server.card), server.card.length, start_of(server.plan), server.plan.length,
+                     server.number, words, start_of(arrived), arrived.length, answer);
+    free(arrived.bytes);
+    uint64_t number = 0;
+    if (!is_there(server) || !is_state(server, words))
+        number = AGREEMENT_BAD_FAULTY_SET;
+    else if (words[4] == 0)
+        number = AGREEMENT_OUT_OF_TURN;
+    if (hold_refused(server, answer, 6, number))
+        return;
+    turns++;
+    const uint64_t *next = answer + 1;
+    int is_last = words[1] == AGREEMENT_REPORTS, is_end = next[0] == server.checked[1];
+    if (next[0] != words[0] + is_last ||
+        next[1] != (!is_last ? words[1] + 1 : is_end ? AGREEMENT_END : AGREEMENT_TO_QUORUM))
+        fail("a commit does not lead to the kind that follows");
+    if (!is_state(server, next) || next[4] != 0)
+        fail("a commit leads to a state that cannot be");
+    if ((words[1] < AGREEMENT_FROM_QUORUM && next[2] != words[2]) || (is_last && next[3] != words[3]))
+        fail("a commit changed a value that its steps do not");
+}
+
+/* A state of any kind of any block or at the end, now and then with a word that is any. */
+static void any_state(struct server server, uint64_t words[AGREEMENT_STATE_WORDS])
+{
+    uint64_t blocks = server.checked[0] == AGREEMENT_ANSWERED ? server.checked[1] : draw(60);
+    words[0] = draw(blocks + 1);
+    words[1] = words[0] == blocks ? AGREEMENT_END : AGREEMENT_TO_QUORUM + draw(4);
+    words[2] = draw(2);
+    words[3] = draw(3);
+    words[4] = words[0] == blocks ? 0 : draw(2);
+    if (draw(4) == 0)
+        words[draw(AGREEMENT_STATE_WORDS)] = draw(2) == 0 ? draw(30) : draw(UINT64_MAX);
+}
+
+/* The part of one server: its start, and some turns from there or from any state. */
+static void call_own(struct files files, const uint64_t network[12], const uint64_t checked[4])
+{
+    uint64_t n = network[0] == AGREEMENT_ANSWERED ? network[1] : AGREEMENT_SERVERS;
+    uint8_t number = (uint8_t)draw(draw(4) == 0 ? 256 : n);
+    struct server server = {files.card, files.plan, network, checked, number};
+    uint64_t answer[7];
+    /* Apart from all else, so that a word too many that is read is an error. */
+    uint64_t *words = malloc(AGREEMENT_STATE_WORDS * sizeof *words);
+    if (words == NULL)
+        exit(2);
+    call_start(server, answer);
+    if (answer[0] == AGREEMENT_ANSWERED && draw(2) == 0)
+        memcpy(words, answer + 1, AGREEMENT_STATE_WORDS * sizeof *words);
+    else
+        any_state(server, words);
+    for (int turn = 0; turn < TURNS; turn++) {
+        /* Mostly in turn. */
+        if (draw(6) == 0 ? draw(2) == 0 : words[4] == 0)
+            call_ask(server, words, answer);
+        else
+            call_commit(server, words, answer);
+        if (answer[0] == AGREEMENT_ANSWERED)
+            memcpy(words, answer + 1, AGREEMENT_STATE_WORDS * sizeof *words);
+    }
+    free(words);
+}
+
 /* How many runs were answered, how many cards printed and how many found two-way. */
 static uint64_t answered, cards, two_way;
 
@@ -308,6 +470,7 @@ static int call_all(struct files files)
     two_way += quick[0] == AGREEMENT_ANSWERED;
     agreement_check_plan(card, files.card.length, plan, files.plan.length, checked);
     fresh |= is_new(checked, 2);
+    call_own(files, network, checked);
 
     uint64_t n = network[0] == AGREEMENT_ANSWERED ? network[1] : draw(10);
     uint8_t faulty = files.run_in.length > 0 ? files.run_in.bytes[0] : 0;
@@ -366,8 +529,8 @@ int main(int argc, char **argv)
         }
     }
     printf("campaign: %" PRIu64 " rounds, %" PRIu64 " cards printed, %" PRIu64 " two-way, %" PRIu64
-           " runs answered, %zu kept\n",
-           calls, cards, two_way, answered, pooled);
+           " runs answered, %" PRIu64 " turns, %zu kept\n",
+           calls, cards, two_way, answered, turns, pooled);
     for (size_t i = 0; i < pooled; i++) {
         free(pool[i].card.bytes);
         free(pool[i].plan.bytes);

@@ -3,7 +3,7 @@
  *
  * The words of each answer are compared with the names of the header, never with numbers written
  * here: so that each name has the library's number is seen as a C compiler sees it. A word past the
- * answer must stay as it was, and so must the lent bytes of a refused call.
+ * answer must stay as it was, and so must the lent bytes of a refused call and a server's state.
  *
  * Prints each answer that is another. Status 1 if there is one.
  */
@@ -14,7 +14,7 @@
 #include <string.h>
 
 enum { UNTOUCHED = 0xA5, FILL = 0xFF, ROUTE_BYTES = 8, LENT = AGREEMENT_SERVERS + 1 };
-enum { CLEAN_LENT = AGREEMENT_CLEAN_CARD_LIMIT + 1 };
+enum { CLEAN_LENT = AGREEMENT_CLEAN_CARD_LIMIT + 1, VALUES_LENT = AGREEMENT_VALUES_LIMIT + 1 };
 enum { HEAD = 0x01, LINK, CARD_END };
 enum { BLOCK = 0x10, TO_S, WITHIN_S, FROM_S, REPORT, PLAN_END };
 
@@ -74,7 +74,19 @@ static void read_card(const char *what, struct list card, const uint64_t expecte
     hold("agreement_read_card", what, answer.words, expected, 12);
 }
 
-/* Prints into so many bytes, and holds the lent ones: the clean card first, then as they were. */
+/* Holds the lent bytes: what was to be written first, then as they were. */
+static void hold_lent(const char *function, const char *what, const uint8_t *lent, size_t size,
+                      struct list written)
+{
+    for (size_t i = 0; i < size; i++) {
+        if (lent[i] != (i < written.length ? written.bytes[i] : UNTOUCHED)) {
+            printf("refusals: %s on %s: lent byte %zu is %u\n", function, what, i, lent[i]);
+            status = 1;
+        }
+    }
+}
+
+/* Prints into so many bytes. */
 static void print_card(const char *what, struct list card, size_t length,
                        const uint64_t expected[4], struct list clean)
 {
@@ -83,12 +95,7 @@ static void print_card(const char *what, struct list card, size_t length,
     memset(lent, UNTOUCHED, sizeof lent);
     agreement_print_card(card.bytes, card.length, lent, length, answer.words);
     hold("agreement_print_card", what, answer.words, expected, 4);
-    for (size_t i = 0; i < sizeof lent; i++) {
-        if (lent[i] != (i < clean.length ? clean.bytes[i] : UNTOUCHED)) {
-            printf("refusals: agreement_print_card on %s: lent byte %zu is %u\n", what, i, lent[i]);
-            status = 1;
-        }
-    }
+    hold_lent("agreement_print_card", what, lent, sizeof lent, clean);
 }
 
 static void split_test(const char *what, struct list card, const uint64_t expected[5])
@@ -140,6 +147,67 @@ static void run(const char *what, struct list card, struct list plan, struct cal
 
 static const struct call two_servers = {{(const uint8_t[]){1, 0}, 2}, 0, AGREEMENT_SERVERS};
 
+static void start(const char *what, struct list card, struct list plan, uint8_t server,
+                  uint8_t input, const uint64_t expected[6])
+{
+    struct answer answer = blank();
+    agreement_start(card.bytes, card.length, plan.bytes, plan.length, server, input, answer.words);
+    hold("agreement_start", what, answer.words, expected, 6);
+}
+
+/* A server and its state: block, kind, v, t, open. */
+struct own {
+    uint8_t server;
+    uint64_t state[AGREEMENT_STATE_WORDS];
+};
+
+static void hold_state(const char *function, const char *what, struct own own,
+                       const uint64_t before[AGREEMENT_STATE_WORDS])
+{
+    if (memcmp(own.state, before, sizeof own.state) == 0)
+        return;
+    printf("refusals: %s on %s changed the state that it was given\n", function, what);
+    status = 1;
+}
+
+/* Asks with so many bytes lent. */
+static void ask(const char *what, struct list card, struct list plan, struct own own, size_t length,
+                const uint64_t expected[7], struct list values)
+{
+    struct answer answer = blank();
+    struct own lent_own = own;
+    uint8_t lent[VALUES_LENT];
+    memset(lent, UNTOUCHED, sizeof lent);
+    agreement_ask(card.bytes, card.length, plan.bytes, plan.length, own.server, lent_own.state, lent,
+                  length, answer.words);
+    hold("agreement_ask", what, answer.words, expected, 7);
+    hold_lent("agreement_ask", what, lent, sizeof lent, values);
+    hold_state("agreement_ask", what, lent_own, own.state);
+}
+
+static void commit(const char *what, struct list card, struct list plan, struct own own,
+                   struct list arrived, const uint64_t expected[6])
+{
+    struct answer answer = blank();
+    struct own lent_own = own;
+    agreement_commit(card.bytes, card.length, plan.bytes, plan.length, own.server, lent_own.state,
+                     arrived.bytes, arrived.length, answer.words);
+    hold("agreement_commit", what, answer.words, expected, 6);
+    hold_state("agreement_commit", what, lent_own, own.state);
+}
+
+/* No server of any network, at no place of any plan, with nothing right. */
+static const struct own nobody = {AGREEMENT_SERVERS, {UINT64_MAX, 0, 2, 3, 2}};
+
+/* A site that is refused for its card or plan is so for a server's calls, whatever they are. */
+static void site_refused(const char *what, struct list card, struct list plan,
+                         const uint64_t expected[7])
+{
+    start(what, card, plan, nobody.server, 2, expected);
+    ask(what, card, plan, nobody, 0, expected, zeros_of(0));
+    commit(what, card, plan, nobody, zeros_of(0), expected);
+}
+
 static void card_refused(const char *what, struct list card, uint64_t number, uint64_t place)
 {
     const uint64_t expected[12] = {AGREEMENT_REFUSED, AGREEMENT_CARD, number, place};
@@ -151,14 +219,16 @@ static void card_refused(const char *what, struct list card, uint64_t number, ui
     quick_test(what, card, expected);
     check_plan(what, card, zeros_of(0), expected);
     run(what, card, zeros_of(0), two_servers, expected, 0);
+    site_refused(what, card, zeros_of(0), expected);
 }
 
 static void plan_refused(const char *what, struct list card, struct list plan, uint64_t number,
                          uint64_t place)
 {
-    const uint64_t expected[4] = {AGREEMENT_REFUSED, AGREEMENT_PLAN, number, place};
+    const uint64_t expected[7] = {AGREEMENT_REFUSED, AGREEMENT_PLAN, number, place};
     check_plan(what, card, plan, expected);
     run(what, card, plan, two_servers, expected, 0);
+    site_refused(what, card, plan, expected);
 }
 
 static void call_refused(const char *what, struct list card, struct list plan, struct call call,
@@ -357,6 +427,82 @@ static void quick_tests(void)
     quick_test("six servers with all links", complete_card(6, 2), six);
 }
 
+static struct own closed(struct own own)
+{
+    own.state[4] = 0;
+    return own;
+}
+
+/* An ask in this state, none being open, gives these values; with a byte less it is refused. */
+static void asked(const char *what, struct list card, struct list plan, struct own own,
+                  struct list values)
+{
+    const uint64_t *s = own.state, open = s[1] != AGREEMENT_END;
+    const uint64_t expected[7] = {AGREEMENT_ANSWERED, s[0], s[1], s[2], s[3], open, values.length};
+    const uint64_t refused[7] = {AGREEMENT_REFUSED, AGREEMENT_CALL, AGREEMENT_SHORT_BUFFER};
+    ask(what, card, plan, closed(own), values.length, expected, values);
+    ask(what, card, plan, closed(own), AGREEMENT_VALUES_LIMIT, expected, values);
+    if (values.length > 0)
+        ask(what, card, plan, closed(own), values.length - 1, refused, zeros_of(0));
+}
+
+/* In this state neither call is answered. */
+static void bad_state(const char *what, struct list card, struct list plan, struct own own)
+{
+    const uint64_t refused[7] = {AGREEMENT_REFUSED, AGREEMENT_CALL, AGREEMENT_BAD_FAULTY_SET};
+    ask(what, card, plan, own, 0, refused, zeros_of(0));
+    commit(what, card, plan, own, zeros_of(0), refused);
+}
+
+/* The part of server 1 of the small site, which enters 0 and hears 1. */
+static void own_part(struct list card, struct list plan)
+{
+    const uint64_t bad_input[6] = {AGREEMENT_REFUSED, AGREEMENT_CALL, AGREEMENT_BAD_INPUTS};
+    const uint64_t bad_server[6] = {AGREEMENT_REFUSED, AGREEMENT_CALL, AGREEMENT_BAD_FAULTY_SET};
+    const uint64_t out_of_turn[7] = {AGREEMENT_REFUSED, AGREEMENT_CALL, AGREEMENT_OUT_OF_TURN};
+    /* Its states while it waits for what is due. */
+    const struct own waiting[] = {{1, {0, AGREEMENT_TO_QUORUM, 0, 2, 1}},
+                                  {1, {0, AGREEMENT_WITHIN_QUORUM, 0, 2, 1}},
+                                  {1, {0, AGREEMENT_FROM_QUORUM, 0, 2, 1}},
+                                  {1, {0, AGREEMENT_REPORTS, 1, 1, 1}}};
+    const struct own end = {1, {1, AGREEMENT_END, 1, 1, 0}};
+    const size_t kinds = sizeof waiting / sizeof *waiting;
+    const uint64_t begin[6] = {AGREEMENT_ANSWERED, 0, AGREEMENT_TO_QUORUM, 0, 2, 0};
+    start("a server", card, plan, 1, 0, begin);
+    start("an input of 2, of no server", card, plan, 2, 2, bad_input);
+    start("a server that is not there", card, plan, 2, 0, bad_server);
+    for (size_t i = 0; i < kinds; i++) {
+        const uint64_t *s = (i + 1 < kinds ? waiting[i + 1] : end).state;
+        const uint64_t next[6] = {AGREEMENT_ANSWERED, s[0], s[1], s[2], s[3], 0};
+        asked("a server with nothing to send", card, plan, waiting[i], zeros_of(0));
+        ask("an open ask", card, plan, waiting[i], 0, out_of_turn, zeros_of(0));
+        commit("what arrived, and more", card, plan, waiting[i], LIST(1, 0), next);
+        commit("no open ask", card, plan, closed(waiting[i]), LIST(1), out_of_turn);
+    }
+    asked("the end", card, plan, end, LIST(1));
+    commit("the end", card, plan, end, LIST(1), out_of_turn);
+    asked("the source of the only route", card, plan,
+          (struct own){0, {0, AGREEMENT_FROM_QUORUM, 1, 0, 0}}, LIST(0));
+    /* A missing arrival and one that is no bit leave it unsure. */
+    const uint64_t unsure[6] = {AGREEMENT_ANSWERED, 0, AGREEMENT_REPORTS, 0, 2, 0};
+    commit("nothing that arrived", card, plan, waiting[2], zeros_of(0), unsure);
+    commit("an arrival that is no bit", card, plan, waiting[2], LIST(2), unsure);
+}
+
+/* One word after the other that a state cannot have. */
+static void bad_states(struct list card, struct list plan)
+{
+    static const struct own states[] = {
+        {2, {0, AGREEMENT_TO_QUORUM, 0, 2, 0}},     {1, {1, AGREEMENT_TO_QUORUM, 0, 2, 0}},
+        {1, {0, AGREEMENT_TO_QUORUM - 1, 0, 2, 0}}, {1, {0, AGREEMENT_END + 1, 0, 2, 0}},
+        {1, {0, AGREEMENT_END, 0, 2, 0}},           {1, {2, AGREEMENT_END, 0, 2, 0}},
+        {1, {1, AGREEMENT_END, 0, 2, 1}},           {1, {0, AGREEMENT_TO_QUORUM, 2, 2, 0}},
+        {1, {0, AGREEMENT_TO_QUORUM, 0, 3, 0}},     {1, {0, AGREEMENT_TO_QUORUM, 0, 2, 2}},
+        {1, {UINT64_C(1) << 32, AGREEMENT_TO_QUORUM, 0, 2, 0}}};
+    for (size_t i = 0; i < sizeof states / sizeof *states; i++)
+        bad_state("a state that cannot be", card, plan, states[i]);
+}
+
 /* Two servers with a link from 0 to 1, the smallest site. */
 static void small_site(const char *what, struct list card, struct list plan)
 {
@@ -368,6 +514,8 @@ static void small_site(const char *what, struct list card, struct list plan)
     split_test(what, card, none);
     check_plan(what, card, plan, totals);
     run(what, card, plan, two_servers, totals, 2);
+    own_part(card, plan);
+    bad_states(card, plan);
 }
 
 /* The same link as often as a card has room for it: one link. */
@@ -413,6 +561,20 @@ static void most_servers(void)
     }
     check_plan("all servers", card, plan, totals);
     run("all servers", card, plan, call, totals, AGREEMENT_SERVERS);
+    /* A buffer of the limit is enough for every ask of every server. */
+    for (uint64_t block = 0; block < totals[1]; block++)
+        for (uint64_t kind = AGREEMENT_TO_QUORUM; kind < AGREEMENT_END; kind++)
+            for (uint8_t server = 0; server < AGREEMENT_SERVERS; server++) {
+                struct answer answer = blank();
+                uint8_t lent[AGREEMENT_VALUES_LIMIT];
+                const uint64_t state[AGREEMENT_STATE_WORDS] = {block, kind, 0, 0, 0};
+                agreement_ask(card.bytes, card.length, plan.bytes, plan.length, server, state, lent,
+                              sizeof lent, answer.words);
+                if (answer.words[0] != AGREEMENT_ANSWERED) {
+                    printf("refusals: agreement_ask refused %" PRIu64 "\n", answer.words[2]);
+                    status = 1;
+                }
+            }
     call.lent--;
     call_refused("all servers and a byte too few", card, plan, call, AGREEMENT_SHORT_BUFFER);
 }

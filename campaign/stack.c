@@ -24,12 +24,13 @@
 enum { SIZE = 4 * AGREEMENT_STACK, PAINT = 0xA5, FILE_MOST = 70000 };
 
 enum function {
-    VERSION, READ_CARD, PRINT_CARD, SPLIT_TEST, QUICK_TEST, CHECK_PLAN, RUN, FUNCTIONS
+    VERSION, READ_CARD, PRINT_CARD, SPLIT_TEST, QUICK_TEST, CHECK_PLAN, RUN, START, ASK, COMMIT, FUNCTIONS
 };
 
 static const char *const names[FUNCTIONS] = {
     "agreement_version", "agreement_read_card", "agreement_print_card", "agreement_split_test",
-    "agreement_quick_test", "agreement_check_plan", "agreement_run"};
+    "agreement_quick_test", "agreement_check_plan", "agreement_run", "agreement_start",
+    "agreement_ask", "agreement_commit"};
 
 struct list {
     uint8_t bytes[FILE_MOST];
@@ -41,6 +42,8 @@ static struct list card, plan, run_in;
 static const uint8_t *inputs, *table;
 static size_t inputs_length, table_length, lent_length, clean_length;
 static uint8_t faulty, lent[2 * AGREEMENT_SERVERS], clean[AGREEMENT_CLEAN_CARD_LIMIT];
+static uint8_t server, input, values[AGREEMENT_VALUES_LIMIT];
+static uint64_t state[AGREEMENT_STATE_WORDS];
 static uint64_t answer[12];
 static enum function function;
 
@@ -70,9 +73,21 @@ static void call(void)
     case CHECK_PLAN:
         agreement_check_plan(card.bytes, card.length, plan.bytes, plan.length, answer);
         break;
-    default:
+    case RUN:
         agreement_run(card.bytes, card.length, plan.bytes, plan.length, inputs, inputs_length,
                       faulty, table, table_length, lent, lent_length, answer);
+        break;
+    case START:
+        agreement_start(card.bytes, card.length, plan.bytes, plan.length, server, input, answer);
+        break;
+    case ASK:
+        agreement_ask(card.bytes, card.length, plan.bytes, plan.length, server, state, values,
+                      sizeof values, answer);
+        break;
+    default:
+        /* what arrived is any bytes */
+        agreement_commit(card.bytes, card.length, plan.bytes, plan.length, server, state,
+                         run_in.bytes, run_in.length, answer);
         break;
     }
 }
@@ -129,14 +144,43 @@ static void call_run(void)
     call_apart(RUN);
 }
 
+/* Asks and commits at a kind of a block, as one server. */
+static void call_own(uint64_t block, uint64_t kind)
+{
+    const uint64_t words[AGREEMENT_STATE_WORDS] = {block, kind, 0, 1, 0};
+    memcpy(state, words, sizeof state);
+    call_apart(ASK);
+    state[4] = 1;
+    call_apart(COMMIT);
+}
+
 static void call_all(void)
 {
+    /* The kinds, and the servers with them, take turns. */
+    static uint64_t turn;
     call_apart(VERSION);
     call_apart(PRINT_CARD);
     call_apart(SPLIT_TEST);
     call_apart(QUICK_TEST);
     call_apart(CHECK_PLAN);
     call_run();
+    turn++;
+    server = turn / 4 % AGREEMENT_SERVERS;
+    call_apart(START);
+    call_own(0, AGREEMENT_TO_QUORUM + turn % 4);
+}
+
+/* Every kind of every block, and the end, as every server. */
+static void call_every_turn(void)
+{
+    call_apart(CHECK_PLAN);
+    uint64_t blocks = answer[0] == AGREEMENT_ANSWERED ? answer[1] : 0;
+    for (server = 0; server < AGREEMENT_SERVERS; server++) {
+        for (uint64_t block = 0; block < blocks; block++)
+            for (uint64_t kind = AGREEMENT_TO_QUORUM; kind < AGREEMENT_END; kind++)
+                call_own(block, kind);
+        call_own(blocks, AGREEMENT_END);
+    }
 }
 
 /* Damages one file in every way, with the others as they are. */
@@ -187,6 +231,7 @@ int main(int argc, char **argv)
             call_apart(PRINT_CARD);
         for (lent_length = 0; lent_length < sizeof lent; lent_length++)
             call_all();
+        call_every_turn();
         damage(&card);
         damage(&plan);
         damage(&run_in);

@@ -1,6 +1,6 @@
 /*
  * The agreement library for x86-64 Linux (System V ABI): card reader, card printed back, split
- * test, quick test for two-way sites, plan check, run.
+ * test, quick test for two-way sites, plan check, run, and a server's own part in a live network.
  *
  * The library is written in Rattle and proved: every function below meets the contract that is
  * written above it, for all arguments. It allocates nothing, keeps no state and calls nothing, so
@@ -10,11 +10,12 @@
  *
  *   - A byte list is a pointer and a length. The pointer is not null, also where the length is 0,
  *     and `length` bytes can be read there (from `lent`: read and written).
- *   - `answer` points to 4, 5 or 12 words, as the declaration says, which the call fills.
+ *   - `answer` points to 4, 5, 6, 7 or 12 words, as the declaration says, which the call fills.
+ *     `state` points to 5 words, which it only reads.
  *   - The bytes and words that a call writes (`lent`, `answer`) lie apart from each other and from
  *     everything that it reads.
  *   - AGREEMENT_STACK bytes of stack are left.
- *   These are all the demands. Bytes may have any values and lists any length.
+ *   These are all the demands. Bytes and words may have any values and lists any length.
  *
  * docs/FORMATS.md says what a card, a plan, a faulty set and a message table are. In short: servers
  * are 0 to n-1, n from 2 to 8; f, from 0 to 2, bounds how many are faulty; a set of servers is one
@@ -42,11 +43,42 @@
  *    9      plan: a route breaks a rule on its own
  *   10      plan: a route shares a server, the receiver aside, with an earlier one of its f+1
  *   11      plan: k is not the one due, or N breaks its rule
- *   12      call: inputs not n bytes of 0 or 1
- *   13      call: faulty set over f servers, or a server not in V
- *   14      call: lent buffer under n bytes; to print a card: shorter than the card to be written
+ *   12      call: inputs not n bytes of 0 or 1; to start: the server's own input above 1
+ *   13      call: faulty set over f servers, or a server not in V; a server's own part: the server
+ *           not in V, or a state at no kind of a block nor the end of this plan, or at the end with
+ *           an ask open, or with v above 1, t above 2 or open above 1
+ *   14      call: lent buffer under n bytes; to print a card: shorter than the card to be written;
+ *           to ask: shorter than the values due
  *   15      call: quick test: some link has no return
- *   The card's refusal comes before the plan's, and that before the call's 12, 13, 14, 15.
+ *   16      call: a second ask while one is open, or a commit with none open
+ *   The card's refusal comes before the plan's, and that before the call's 12, 13, 14, 15, 16.
+ *
+ * A server's own part
+ *
+ *   A server in a live network knows only itself. agreement_start gives it the state to start in.
+ *   Then, for each block of the plan in turn and in each block for the kinds 11, 12, 13 and 14 of
+ *   carriages in turn, those too that are empty or none of its business, it asks and commits:
+ *   agreement_ask says what it sends as source, agreement_commit takes in what arrived for it as
+ *   receiver. At the end agreement_ask gives the decided bit. Carrying the values, and waiting for
+ *   those due, is the caller's part; a value that does not come counts as unsure.
+ *
+ *   The library keeps nothing between two calls: the state is the caller's own, who keeps it, may
+ *   store it, and hands it to the next call. Its words are
+ *     state[0]  block   counted from 0; at the end the number of blocks
+ *     state[1]  kind    of carriages, the plan's command for them, or AGREEMENT_END
+ *     state[2]  v       the server's value, 0 or 1
+ *     state[3]  t       its working value: 0, 1, or 2 for unsure
+ *     state[4]  open    1 while an ask is open, that is, between an ask and its commit; else 0
+ *   The words answer[1] to answer[5] of an answered call are the state for the next one, which has
+ *   to fill another `answer`. A refused call changes nothing, and the state that it was given is as
+ *   good as before.
+ *
+ *   Suppose that all servers are stepped so, side by side over one card and plan, each from its own
+ *   input; that a carriage with no faulty server before its receiver brings what its source's ask
+ *   gave for it; and that any other brings the byte of its number in a message table. Then the one
+ *   value that a server shows at the end is, unless it is faulty, its byte after agreement_run with
+ *   the same card, plan, inputs, faulty set and table. So the servers that are not faulty show one
+ *   bit, and at least one of them has it as its input, whatever the faulty ones send.
  */
 #ifndef AGREEMENT_H
 #define AGREEMENT_H
@@ -60,7 +92,7 @@ extern "C" {
 
 /* The version of this header. */
 #define AGREEMENT_VERSION_MAJOR 0
-#define AGREEMENT_VERSION_MINOR 4
+#define AGREEMENT_VERSION_MINOR 5
 #define AGREEMENT_VERSION_PATCH 0
 #define AGREEMENT_VERSION \
     (UINT64_C(1000000) * AGREEMENT_VERSION_MAJOR + UINT64_C(1000) * AGREEMENT_VERSION_MINOR + \
@@ -90,14 +122,33 @@ enum {
     AGREEMENT_BAD_ROUTE = 9,
     AGREEMENT_SHARED_SERVER = 10, /* between two routes to one receiver */
     AGREEMENT_BAD_REPORT = 11,    /* its k or its N */
-    AGREEMENT_BAD_INPUTS = 12,
-    AGREEMENT_BAD_FAULTY_SET = 13,
+    AGREEMENT_BAD_INPUTS = 12,    /* a server's own input too */
+    AGREEMENT_BAD_FAULTY_SET = 13, /* of a server's own part: the server, or its state */
     AGREEMENT_SHORT_BUFFER = 14,  /* `lent` */
-    AGREEMENT_ONE_WAY = 15        /* a link without a return */
+    AGREEMENT_ONE_WAY = 15,       /* a link without a return */
+    AGREEMENT_OUT_OF_TURN = 16    /* an ask while one is open, a commit while none is */
+};
+
+/* The kinds of carriages of a block, by the plan's commands, and the end, for state[1]. */
+enum {
+    AGREEMENT_TO_QUORUM = 0x11,     /* routes from A to S-A */
+    AGREEMENT_WITHIN_QUORUM = 0x12, /* routes among S */
+    AGREEMENT_FROM_QUORUM = 0x13,   /* routes from S to V-F-S */
+    AGREEMENT_REPORTS = 0x14,       /* from the N of a k in F */
+    AGREEMENT_END = 0x15            /* after the last block */
 };
 
 /* The largest n: agreement_run never refuses 14 for a buffer of so many bytes. */
 #define AGREEMENT_SERVERS 8
+
+/* The words of a state. */
+#define AGREEMENT_STATE_WORDS 5
+
+/*
+ * The most carriages that one kind of a block can have: agreement_ask never refuses 14 for a buffer
+ * of so many bytes.
+ */
+#define AGREEMENT_VALUES_LIMIT 56
 
 /* The longest clean card: agreement_print_card never refuses 14 for a buffer of so many bytes. */
 #define AGREEMENT_CLEAN_CARD_LIMIT 172
@@ -108,7 +159,7 @@ enum {
 
 /*
  * The bytes of stack that a call needs at most. The frames along the calls in the archive add up to
- * 1,760 bytes at the deepest, in agreement_run; no call on the example sites or on damaged versions
+ * 1,840 bytes at the deepest, in agreement_run; no call on the example sites or on damaged versions
  * of them was measured to use more. `sh tools/stack` does both again.
  */
 #define AGREEMENT_STACK 4096
@@ -170,8 +221,8 @@ void agreement_check_plan(const uint8_t *card, size_t card_length, const uint8_t
 
 /*
  * The run: Algorithm BC with the plan's choices. It plays the whole network at once, with what the
- * faulty servers do as an argument. That is for rehearsals, comparisons and drills: it is not a
- * server's own part in a live network.
+ * faulty servers do as an argument. That is for rehearsals, comparisons and drills: a server in a
+ * live network takes its own part by agreement_start, agreement_ask and agreement_commit.
  *
  * `inputs` has each server's bit, `faulty` the servers that fail, and `table` what arrives by each
  * carriage that a faulty server has spoiled: the byte of the carriage's number, 0 or 1, any other
@@ -188,6 +239,49 @@ void agreement_run(const uint8_t *card, size_t card_length, const uint8_t *plan,
                    const uint8_t *inputs, size_t inputs_length, uint8_t faulty,
                    const uint8_t *table, size_t table_length, uint8_t *lent, size_t lent_length,
                    uint64_t answer[4]);
+
+/*
+ * Where a server starts, with its own bit as `input`: at kind 11 of block 0, v its input, t unsure,
+ * no ask open.
+ * answer: 0, block, kind, v, t, open: that is 0, 0, AGREEMENT_TO_QUORUM, input, 2, 0.
+ * Or answer: 2, what is at fault, number, place, 0, 0: the refusal of card or plan, 12 where the
+ * input is above 1, or else 13 where the server is not in V.
+ */
+void agreement_start(const uint8_t *card, size_t card_length, const uint8_t *plan,
+                     size_t plan_length, uint8_t server, uint8_t input, uint64_t answer[6]);
+
+/*
+ * Asks what a server sends as source in its state's kind of its block.
+ * answer: 0, block, kind, v, t, open, values. The state is as it was, but that `open` is now 1.
+ * `values` is the number of the kind's carriages whose source is this server, and may be 0. The
+ * first `values` bytes of `lent` are what it sends by each of them, in plan order: v in the kinds
+ * 11 and 14, t, which may be 2, in the kinds 12 and 13. Later bytes of `lent` are as they were.
+ * At the end the one value is v, the decided bit, as often as it is asked, and `open` stays 0.
+ * Or answer: 2, what is at fault, number, place, 0, 0, 0: the refusal of card or plan, 13 for the
+ * server or its state, 14 where `lent` is shorter than the values due, or else 16 where an ask is
+ * open already. Then every byte of `lent` is as it was.
+ * Card and plan are checked in every call.
+ */
+void agreement_ask(const uint8_t *card, size_t card_length, const uint8_t *plan, size_t plan_length,
+                   uint8_t server, const uint64_t state[5], uint8_t *lent, size_t lent_length,
+                   uint64_t answer[7]);
+
+/*
+ * Commits what arrived for a server as receiver in its state's kind of its block, and moves on.
+ * Byte i of `arrived` came by the carriage that is number i, from 0, of the kind's carriages whose
+ * receiver is this server, in plan order: 0 or 1, any other and a missing one counting as unsure,
+ * as in the run. So 2 stands for one that did not come while a later one did. Bytes beyond those
+ * due have no effect.
+ * answer: 0, block, kind, v, t, open: the state after the server's steps of the kind, which are 1
+ * and 2 in the kind 11, 3 in 12, 4 and 5 in 13, 6 in 14 (docs/FORMATS.md has the steps). It is at
+ * the next kind of the block, at kind 11 of the next block or at the end, and no ask is open.
+ * Or answer: 2, what is at fault, number, place, 0, 0: the refusal of card or plan, 13 for the
+ * server or its state, or else 16 where no ask is open, as at the end.
+ * Card and plan are checked in every call.
+ */
+void agreement_commit(const uint8_t *card, size_t card_length, const uint8_t *plan,
+                      size_t plan_length, uint8_t server, const uint64_t state[5],
+                      const uint8_t *arrived, size_t arrived_length, uint64_t answer[6]);
 
 #ifdef __cplusplus
 }

@@ -2,9 +2,10 @@
 //! with `None` for words that the library's contract rules out.
 
 use crate::{
-    CallGround, CardGround, Network, PlanGround, Quick, Refusal, ServerSet, Split, Totals,
+    Asked, CallGround, CardGround, Network, PlanGround, Quick, Refusal, ServerSet, Split, State,
+    Totals,
 };
-use crate::{CLEAN_CARD_LIMIT, PLAN_LIMIT};
+use crate::{CLEAN_CARD_LIMIT, PLAN_LIMIT, VALUES_LIMIT};
 
 /// Lent answers start out as this, which no answer holds: a word that the library left
 /// unwritten would be noticed.
@@ -30,8 +31,20 @@ const MOST_BLOCKS: u64 = 1_499;
 /// No carriage takes less than a byte of its plan.
 const MOST_CARRIAGES: u64 = PLAN_LIMIT as u64;
 
-/// Why a call to run is turned back.
+const MOST_VALUES: u64 = VALUES_LIMIT as u64;
+
+/// The t of a server that is not sure.
+const UNSURE: u64 = 2;
+
+/// Why a call to run is turned back, and one to start, to ask and to commit.
 const OF_A_RUN: [CallGround; 3] = [CallGround::Inputs, CallGround::FaultSet, CallGround::Buffer];
+const OF_A_START: [CallGround; 2] = [CallGround::Inputs, CallGround::FaultSet];
+const OF_AN_ASK: [CallGround; 3] = [
+    CallGround::FaultSet,
+    CallGround::Buffer,
+    CallGround::OutOfTurn,
+];
+const OF_A_COMMIT: [CallGround; 2] = [CallGround::FaultSet, CallGround::OutOfTurn];
 
 pub fn network(answer: &[u64; 12]) -> Option<Network> {
     let [ANSWERED, n @ 2..=8, f @ 0..=2, 0, words @ ..] = *answer else {
@@ -109,11 +122,7 @@ pub fn totals_or_refusal(answer: [u64; 4]) -> Option<Result<Totals, Refusal>> {
                 carriages: usize::try_from(carriages).ok()?,
             }))
         }
-        [REFUSED, OF_CARD, number, place] => Some(Err(of_card(number, place)?)),
-        [REFUSED, OF_PLAN, number, place] => Some(Err(Refusal::Plan {
-            ground: PlanGround::of_number(number)?,
-            place: usize::try_from(place).ok()?,
-        })),
+        [REFUSED, whose, number, place] => Some(Err(of_site([whose, number, place], &[])?)),
         _ => None,
     }
 }
@@ -124,6 +133,71 @@ pub fn ran_or_refusal(answer: [u64; 4]) -> Option<Result<Totals, Refusal>> {
         [REFUSED, OF_CALL, number, 0] => Some(Err(of_call(number, &OF_A_RUN)?)),
         // Else it says what the plan check would say.
         _ => totals_or_refusal(answer),
+    }
+}
+
+/// The answer of the start: t is unsure, whatever the input.
+pub fn started_or_refusal(answer: [u64; 6]) -> Option<Result<State, Refusal>> {
+    match answer {
+        [ANSWERED, words @ ..] => match words {
+            [0, State::TO_QUORUM, 0..=1, UNSURE, 0] => Some(Ok(State::from_words(words))),
+            _ => None,
+        },
+        [REFUSED, refusal @ .., 0, 0] => Some(Err(of_site(refusal, &OF_A_START)?)),
+        _ => None,
+    }
+}
+
+/// The answer of the ask.
+pub fn asked_or_refusal(answer: [u64; 7]) -> Option<Result<Asked, Refusal>> {
+    match answer {
+        [ANSWERED, words @ .., values @ 0..=MOST_VALUES] => {
+            let state = state(words)?;
+            // At the end there is one value, and no ask opens.
+            let opened = match state.kind {
+                State::END => state.open == 0 && values == 1,
+                _ => state.open == 1,
+            };
+            let values = usize::try_from(values).ok()?;
+            opened.then_some(Ok(Asked { state, values }))
+        }
+        [REFUSED, refusal @ .., 0, 0, 0] => Some(Err(of_site(refusal, &OF_AN_ASK)?)),
+        _ => None,
+    }
+}
+
+/// The answer of the commit.
+pub fn committed_or_refusal(answer: [u64; 6]) -> Option<Result<State, Refusal>> {
+    match answer {
+        [ANSWERED, words @ ..] => state(words).filter(|state| state.open == 0).map(Ok),
+        [REFUSED, refusal @ .., 0, 0] => Some(Err(of_site(refusal, &OF_A_COMMIT)?)),
+        _ => None,
+    }
+}
+
+/// A state at a kind of a block or at the end of some plan.
+fn state(words: [u64; 5]) -> Option<State> {
+    let state = State::from_words(words);
+    let placed = match state.kind {
+        State::TO_QUORUM..=State::REPORTS => state.block < MOST_BLOCKS,
+        State::END => (1..=MOST_BLOCKS).contains(&state.block),
+        _ => false,
+    };
+    let in_range = state.v <= 1 && state.t <= UNSURE && state.open <= 1;
+    (placed && in_range).then_some(state)
+}
+
+/// The refusal of a call that takes card and plan and can itself be turned back on these
+/// grounds: whose, number, place.
+fn of_site([whose, number, place]: [u64; 3], grounds: &[CallGround]) -> Option<Refusal> {
+    match (whose, place) {
+        (OF_CARD, place) => of_card(number, place),
+        (OF_PLAN, place) => Some(Refusal::Plan {
+            ground: PlanGround::of_number(number)?,
+            place: usize::try_from(place).ok()?,
+        }),
+        (OF_CALL, 0) => of_call(number, grounds),
+        _ => None,
     }
 }
 
@@ -166,6 +240,13 @@ mod tests {
 
     const ONE_WAY: Refusal = Refusal::Call {
         ground: CallGround::OneWay,
+    };
+
+    const INPUTS: Refusal = Refusal::Call {
+        ground: CallGround::Inputs,
+    };
+    const OUT_OF_TURN: Refusal = Refusal::Call {
+        ground: CallGround::OutOfTurn,
     };
 
     #[test]
@@ -231,6 +312,80 @@ mod tests {
         assert_eq!(ran_or_refusal([2, 0, 5, 87]), Some(Err(OUT_OF_RANGE)));
         assert_eq!(ran_or_refusal([2, 1, 7, 4]), Some(Err(NOT_DUE)));
         assert_eq!(ran_or_refusal([2, 2, 13, 0]), Some(Err(FAULT_SET)));
+    }
+
+    /// The words of a refusal: whose, number, place.
+    fn refused<const N: usize>(refusal: [u64; 3]) -> [u64; N] {
+        let mut answer = [0; N];
+        answer[0] = 2;
+        answer[1..4].copy_from_slice(&refusal);
+        answer
+    }
+
+    #[test]
+    fn words_of_a_start_become_the_answers_they_stand_for() {
+        for input in 0..=1 {
+            let state = State::from_words([0, 0x11, input, 2, 0]);
+            let answer = started_or_refusal([0, 0, 0x11, input, 2, 0]);
+            assert_eq!(answer, Some(Ok(state)));
+        }
+        for (refusal, expected) in [
+            ([0, 5, 87], OUT_OF_RANGE),
+            ([1, 7, 4], NOT_DUE),
+            ([2, 12, 0], INPUTS),
+            ([2, 13, 0], FAULT_SET),
+        ] {
+            let answer = started_or_refusal(refused(refusal));
+            assert_eq!(answer, Some(Err(expected)));
+        }
+    }
+
+    #[test]
+    fn words_of_an_ask_become_the_answers_they_stand_for() {
+        for kind in 0x11..=0x14 {
+            for (block, v, t, values) in [(0, 0, 0, 0), (1_498, 1, 2, 56)] {
+                let state = State::from_words([block, kind, v, t, 1]);
+                let answer = asked_or_refusal([0, block, kind, v, t, 1, values]);
+                let values = values as usize;
+                assert_eq!(answer, Some(Ok(Asked { state, values })));
+            }
+        }
+        let state = State::from_words([1_499, 0x15, 1, 2, 0]);
+        let answer = asked_or_refusal([0, 1_499, 0x15, 1, 2, 0, 1]);
+        assert_eq!(answer, Some(Ok(Asked { state, values: 1 })));
+        for (refusal, expected) in [
+            ([0, 5, 87], OUT_OF_RANGE),
+            ([1, 7, 4], NOT_DUE),
+            ([2, 13, 0], FAULT_SET),
+            ([2, 14, 0], SHORT_BUFFER),
+            ([2, 16, 0], OUT_OF_TURN),
+        ] {
+            let answer = asked_or_refusal(refused(refusal));
+            assert_eq!(answer, Some(Err(expected)));
+        }
+    }
+
+    #[test]
+    fn words_of_a_commit_become_the_answers_they_stand_for() {
+        for words in [
+            [0, 0x12, 0, 0, 0],
+            [1_498, 0x11, 1, 2, 0],
+            [1, 0x15, 1, 1, 0],
+            [1_499, 0x15, 0, 2, 0],
+        ] {
+            let [block, kind, v, t, open] = words;
+            let answer = committed_or_refusal([0, block, kind, v, t, open]);
+            assert_eq!(answer, Some(Ok(State::from_words(words))));
+        }
+        for (refusal, expected) in [
+            ([0, 5, 87], OUT_OF_RANGE),
+            ([1, 7, 4], NOT_DUE),
+            ([2, 13, 0], FAULT_SET),
+            ([2, 16, 0], OUT_OF_TURN),
+        ] {
+            let answer = committed_or_refusal(refused(refusal));
+            assert_eq!(answer, Some(Err(expected)));
+        }
     }
 
     #[test]
@@ -345,6 +500,84 @@ mod tests {
         }
     }
 
+    /// What neither start nor commit answers.
+    const NO_STATE: [[u64; 6]; 16] = [
+        [UNWRITTEN; 6],
+        [0, UNWRITTEN, 0x11, 0, 2, 0],
+        [0, 0, UNWRITTEN, 0, 2, 0],
+        [0, 0, 0x11, UNWRITTEN, 2, 0],
+        [0, 0, 0x11, 0, UNWRITTEN, 0],
+        [0, 0, 0x11, 0, 2, UNWRITTEN],
+        [0, 0, 0x11, 0, 2, 1],
+        [0, 0, 0x11, 2, 2, 0],
+        [0, 0, 0x11, 0, 3, 0],
+        [0, 0, 0x10, 0, 2, 0],
+        [1, 0, 0x11, 0, 2, 0],
+        [2, 0, 6, 87, 0, 0],
+        [2, 1, 7, 4, 1, 0],
+        [2, 2, 13, 0, 0, 1],
+        [2, 2, 13, 1, 0, 0],
+        [2, 3, 13, 0, 0, 0],
+    ];
+
+    #[test]
+    fn words_that_are_no_answer_of_the_start_are_noticed() {
+        let of_others = [
+            [0, 0, 0x11, 0, 1, 0],
+            [0, 1, 0x11, 0, 2, 0],
+            [0, 0, 0x12, 0, 2, 0],
+            [0, 0, 0x15, 0, 2, 0],
+            [2, 2, 14, 0, 0, 0],
+            [2, 2, 16, 0, 0, 0],
+        ];
+        for answer in NO_STATE.into_iter().chain(of_others) {
+            assert_eq!(started_or_refusal(answer), None, "{answer:?}");
+        }
+    }
+
+    #[test]
+    fn words_that_are_no_answer_of_the_commit_are_noticed() {
+        let of_others = [
+            [0, 0, 0x15, 0, 2, 0],
+            [0, 1_500, 0x15, 0, 2, 0],
+            [0, 1_499, 0x11, 0, 2, 0],
+            [0, 1, 0x15, 0, 2, 1],
+            [2, 2, 12, 0, 0, 0],
+            [2, 2, 14, 0, 0, 0],
+        ];
+        for answer in NO_STATE.into_iter().chain(of_others) {
+            assert_eq!(committed_or_refusal(answer), None, "{answer:?}");
+        }
+    }
+
+    #[test]
+    fn words_that_are_no_answer_of_the_ask_are_noticed() {
+        for answer in [
+            [UNWRITTEN; 7],
+            [0, 0, 0x13, 0, 1, 1, UNWRITTEN],
+            [0, 0, 0x13, 0, 1, 1, 57],
+            [0, 0, 0x13, 0, 1, 0, 1],
+            [0, 0, 0x13, 0, 1, 2, 1],
+            [0, 0, 0x13, 2, 1, 1, 1],
+            [0, 0, 0x13, 0, 3, 1, 1],
+            [0, 0, 0x10, 0, 1, 1, 1],
+            [0, 1_499, 0x13, 0, 1, 1, 1],
+            [0, 0, 0x15, 0, 1, 0, 1],
+            [0, 1, 0x15, 0, 1, 1, 1],
+            [0, 1, 0x15, 0, 1, 0, 0],
+            [0, 1, 0x15, 0, 1, 0, 2],
+            [1, 0, 0x13, 0, 1, 1, 1],
+            [2, 0, 6, 87, 0, 0, 0],
+            [2, 1, 7, 4, 0, 0, 1],
+            [2, 2, 12, 0, 0, 0, 0],
+            [2, 2, 15, 0, 0, 0, 0],
+            [2, 2, 13, 1, 0, 0, 0],
+            [2, 3, 13, 0, 0, 0, 0],
+        ] {
+            assert_eq!(asked_or_refusal(answer), None, "{answer:?}");
+        }
+    }
+
     #[test]
     fn words_that_are_no_answer_of_the_run_are_noticed() {
         for answer in [
@@ -354,6 +587,7 @@ mod tests {
             [1, 1, 1, 0],
             [2, 2, 11, 0],
             [2, 2, 15, 0],
+            [2, 2, 16, 0],
             [2, 2, 13, 1],
             [2, 2, 13, UNWRITTEN],
             [2, 3, 13, 0],

@@ -1,6 +1,7 @@
 //! Safe functions over the proved agreement library, for networks of 2 to 8 servers of
 //! which at most 2 fail: the card reader, the card printed back, the split test, the quick
-//! test for two-way sites, the plan check and the run.
+//! test for two-way sites, the plan check, the run, and a server's own part in a live
+//! network.
 //!
 //! The library is written and proved in Rattle and linked as a static archive; its
 //! contracts, not this crate, say why the answers are right. What is done here is to
@@ -17,6 +18,13 @@
 //! # Ok::<(), agreement::Refusal>(())
 //! ```
 //!
+//! # In a live network
+//!
+//! A [`Server`] knows only itself. It asks what to send, commits what arrived, kind by kind
+//! and block by block, and has the decided bit at the end; its types keep asks and commits in
+//! turn. [`start`], [`ask`] and [`commit`] are the same on a [`State`] that the caller keeps
+//! and may store.
+//!
 //! # Linking
 //!
 //! Inside the library's repository the archive is looked for where
@@ -32,9 +40,11 @@
 
 mod answers;
 mod library;
+mod own_part;
 mod refusal;
 mod servers;
 
+pub use own_part::{ask, commit, start, Asked, Sending, Server, State, Turn, VALUES_LIMIT};
 pub use refusal::{CallGround, CardGround, PlanGround, Refusal};
 pub use servers::{Members, ServerSet};
 
@@ -294,6 +304,9 @@ pub fn check_plan(card: &[u8], plan: &[u8]) -> Result<Totals, Refusal> {
 /// Whatever the faulty servers have arrive, an answered call leaves all sound servers
 /// with one bit, which was the input of a sound server.
 ///
+/// This is for rehearsals, comparisons and drills; in a live network each server takes its
+/// own part, as a [`Server`].
+///
 /// ```
 /// use agreement::ServerSet;
 ///
@@ -347,19 +360,19 @@ mod tests {
     use super::*;
 
     /// The card of P1 (docs/FORMATS.md has the cases P1 to P10): two servers, no faults, one link from 0 to 1.
-    const P1: [u8; 7] = [0x01, 0x02, 0x00, 0x02, 0x00, 0x01, 0x03];
+    pub(crate) const P1: [u8; 7] = [0x01, 0x02, 0x00, 0x02, 0x00, 0x01, 0x03];
 
     #[test]
     fn wrapper_and_library_are_of_one_version() {
         assert_eq!(version().to_string(), env!("CARGO_PKG_VERSION"));
     }
 
-    const fn card_cut(place: usize) -> Refusal {
+    pub(crate) const fn card_cut(place: usize) -> Refusal {
         let ground = CardGround::Cut;
         Refusal::Card { ground, place }
     }
 
-    const fn of_plan(ground: PlanGround, place: usize) -> Refusal {
+    pub(crate) const fn of_plan(ground: PlanGround, place: usize) -> Refusal {
         Refusal::Plan { ground, place }
     }
 
@@ -477,7 +490,7 @@ mod tests {
     }
 
     /// The plan of P5, which fits the card of P1, and the totals of it.
-    const P5: [u8; 14] = [
+    pub(crate) const P5: [u8; 14] = [
         0x10, 0x00, 0x01, 0x01, 0x13, 0x00, 0x01, 0xff, 0xff, 0xff, 0xff, 0xff, 0xff, 0x15,
     ];
     const P5_TOTALS: Totals = Totals {

@@ -51,4 +51,44 @@ extern "C" {
         lent_length: usize,
         answer: *mut [u64; 4],
     );
+
+    /// Writes {0, block, kind, v, t, open}, or {2, whose, number, place, 0, 0} for a
+    /// refusal.
+    pub fn agreement_start(
+        card: *const u8,
+        card_length: usize,
+        plan: *const u8,
+        plan_length: usize,
+        server: u8,
+        input: u8,
+        answer: *mut [u64; 6],
+    );
+
+    /// Writes {0, block, kind, v, t, open, values} and the values to the first lent bytes,
+    /// or {2, whose, number, place, 0, 0, 0} for a refusal and no lent byte.
+    pub fn agreement_ask(
+        card: *const u8,
+        card_length: usize,
+        plan: *const u8,
+        plan_length: usize,
+        server: u8,
+        state: *const [u64; 5],
+        lent: *mut u8,
+        lent_length: usize,
+        answer: *mut [u64; 7],
+    );
+
+    /// Writes {0, block, kind, v, t, open}, or {2, whose, number, place, 0, 0} for a
+    /// refusal.
+    pub fn agreement_commit(
+        card: *const u8,
+        card_length: usize,
+        plan: *const u8,
+        plan_length: usize,
+        server: u8,
+        state: *const [u64; 5],
+        arrived: *const u8,
+        arrived_length: usize,
+        answer: *mut [u64; 6],
+    );
 }

@@ -2,7 +2,7 @@
 //! The two crates share no type: the wrapper stands alone, and so does the reference.
 
 use agreement::ServerSet;
-use reference::{Network, Quick, Refusal, Split, Totals};
+use reference::{Network, Quick, Refusal, Split, State, Totals};
 
 /// A mark for each pair of the eight servers that there can be, as the reference has it:
 /// a link that cannot be is a difference too.
@@ -28,6 +28,36 @@ pub fn quick(answer: Result<agreement::Quick, agreement::Refusal>) -> Result<Qui
 pub fn totals(answer: Result<agreement::Totals, agreement::Refusal>) -> Result<Totals, Refusal> {
     let agreement::Totals { blocks, carriages } = answer.map_err(refusal)?;
     Ok(Totals { blocks, carriages })
+}
+
+/// What the start or the commit of a server answers.
+pub fn stepped(answer: Result<agreement::State, agreement::Refusal>) -> Result<State, Refusal> {
+    answer.map(state).map_err(refusal)
+}
+
+/// What the ask of a server answers: its state, and how many values it sends.
+pub fn asked(
+    answer: Result<agreement::Asked, agreement::Refusal>,
+) -> Result<(State, usize), Refusal> {
+    let agreement::Asked { state, values } = answer.map_err(refusal)?;
+    Ok((self::state(state), values))
+}
+
+fn state(state: agreement::State) -> State {
+    let agreement::State {
+        block,
+        kind,
+        v,
+        t,
+        open,
+    } = state;
+    State {
+        block,
+        kind,
+        v,
+        t,
+        open,
+    }
 }
 
 pub fn refusal(refusal: agreement::Refusal) -> Refusal {

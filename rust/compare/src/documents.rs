@@ -24,6 +24,8 @@ mod lengths;
 mod library;
 mod limits;
 mod numbers;
+mod own_calls;
+mod own_part;
 mod page;
 mod phrases;
 mod plans;
@@ -93,6 +95,8 @@ pub const LENGTHS: &[Check] = &[lengths::stated, clean::stated];
 pub const CASES: &[Check] = &[cases::stated, cases::proved, sets::split, quick::stated];
 /// What a run does.
 pub const RUNS: &[Check] = &[steps::stated, runs::stated];
+/// What a server does that knows only itself.
+pub const OWN_PART: &[Check] = &[own_part::stated];
 /// The words of the header's answers.
 pub const WORDS: &[Check] = &[words::stated];
 /// What stands in the middle of sentences.
@@ -101,15 +105,15 @@ pub const PHRASES: &[Check] = &[phrases::stated, formulas::everywhere, formulas:
 /// All of them, those that take longest last.
 fn checks() -> Vec<Check> {
     [
-        PHRASES, LIMITS, BYTES, BLOCKS, LENGTHS, CASES, RUNS, REFUSALS, NAMES, WORDS, SITE,
-        EXAMPLES,
+        PHRASES, LIMITS, BYTES, BLOCKS, LENGTHS, CASES, RUNS, OWN_PART, REFUSALS, NAMES, WORDS,
+        SITE, EXAMPLES,
     ]
     .concat()
 }
 
 /// The limits that the checks go by are those that the library and `rehearse` keep.
 ///
-/// Panics where they are not, as do the three below.
+/// Panics where they are not, as do the four below.
 pub fn library_keeps_the_limits() {
     calls::lengths_are_kept();
     calls::servers_are_the_first_n();
@@ -130,6 +134,11 @@ pub fn library_takes_the_lengths() {
     lengths::too_few_sources_are_refused();
     lengths::no_link_is_left();
     clean::lengths_are_right();
+}
+
+/// The order in which the checks list what a server's calls refuse is that of the library.
+pub fn library_refuses_servers_in_order() {
+    own_part::refusals_are_in_order();
 }
 
 /// The steps that the checks go through decide as it does.

@@ -9,6 +9,9 @@
 //! decide one bit, and it is the input of one of them. This is looked at in every
 //! answered call, and [`runs::search`] tries hard to make it fail.
 //!
+//! A server's own part is compared call by call, and the library has to be one with itself:
+//! servers stepped side by side, each on its own, end with what the run decides.
+//!
 //! The numbers of the header and of the documents are held to the library too, in
 //! [`documents`]; the reference has no say there.
 //!
@@ -26,21 +29,17 @@
 pub mod cards;
 pub mod converted;
 pub mod documents;
+mod lent;
+mod planned;
 pub mod plans;
 pub mod prints;
 pub mod quicks;
 pub mod rehearsals;
 pub mod runs;
+pub mod servers;
 mod text;
 
-use generate::{good_card, Rng};
-
-/// A random network without a bad split, and an accepted plan for it.
-fn planned(rng: &mut Rng, n: u8, f: u8) -> (Vec<u8>, Vec<u8>) {
-    let card = good_card(rng, n, f).expect("n is over 3f");
-    let plan = generate::plan(rng, &card).expect("a good network has a plan");
-    (card, plan)
-}
+use planned::planned;
 
 /// `start`, then `bytes` over and over, up to `length` bytes.
 fn repeated(start: &[u8], bytes: &[u8], length: usize) -> Vec<u8> {
@@ -51,4 +50,11 @@ fn repeated(start: &[u8], bytes: &[u8], length: usize) -> Vec<u8> {
         .take(length)
         .copied()
         .collect()
+}
+
+/// Counts more.
+fn add<const N: usize>(counts: &mut [usize; N], more: &[usize; N]) {
+    for (count, more) in counts.iter_mut().zip(more) {
+        *count += more;
+    }
 }

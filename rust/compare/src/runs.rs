@@ -33,3 +33,4 @@ pub use loops::{
 pub use tally::Tally;
 
 pub(crate) use given::RUNS;
+pub(crate) use tally::Call;

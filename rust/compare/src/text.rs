@@ -1,11 +1,37 @@
 //! How bytes and refusals are written down in the data files and in messages.
 
-use reference::Refusal;
+use reference::{Refusal, Totals};
 
 /// The lines of a data file that are cases, in fields.
 pub(crate) fn cases(file: &'static str) -> impl Iterator<Item = Vec<&'static str>> {
     let lines = file.lines().filter(|line| !line.starts_with('#'));
     lines.map(|line| line.split('\t').collect())
+}
+
+/// An answer that is no refusal, in the plain form of the data files.
+pub(crate) trait Plain {
+    fn plain(&self) -> String;
+}
+
+impl Plain for Totals {
+    fn plain(&self) -> String {
+        format!("{} {}", self.blocks, self.carriages)
+    }
+}
+
+/// A number of bytes.
+impl Plain for usize {
+    fn plain(&self) -> String {
+        self.to_string()
+    }
+}
+
+/// An answer in the plain form of the data files.
+pub(crate) fn plain<T: Plain>(answer: &Result<T, Refusal>) -> String {
+    match answer {
+        Ok(answer) => format!("ok {}", answer.plain()),
+        Err(refusal) => plain_refusal(*refusal),
+    }
 }
 
 /// A refusal in the plain form of the data files.
@@ -42,6 +68,17 @@ pub(crate) fn unhex(digits: &str) -> Vec<u8> {
             _ => panic!("half a byte at the end: {digits}"),
         })
         .collect()
+}
+
+/// What stands for the plan of the case before.
+const SAME_PLAN: &str = "=";
+
+/// The plan that a field stands for, where the case before has the plan `before`.
+pub(crate) fn plan_after(before: Vec<u8>, field: &str) -> Vec<u8> {
+    match field {
+        SAME_PLAN => before,
+        digits => unhex(digits),
+    }
 }
 
 fn digit(character: u8) -> u8 {

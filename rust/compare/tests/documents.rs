@@ -69,6 +69,12 @@ fn runs_go_as_stated() {
 }
 
 #[test]
+fn a_server_s_own_part_goes_as_stated() {
+    documents::library_refuses_servers_in_order();
+    hold(documents::OWN_PART);
+}
+
+#[test]
 fn the_header_tells_the_words_of_its_answers() {
     hold(documents::WORDS);
 }

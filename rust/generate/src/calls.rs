@@ -112,19 +112,19 @@ pub fn aimed_table(rng: &mut Rng, aim: usize, carriages: &[Carriage], inputs: &[
     bytes.collect()
 }
 
-/// How many bytes are lent for `n` servers: mostly enough or more, now and then less.
-pub fn lent(rng: &mut Rng, n: u8) -> usize {
-    let n = usize::from(n);
+/// How many bytes are lent where so many are to be written: mostly enough or more, now and
+/// then less.
+pub fn lent(rng: &mut Rng, due: usize) -> usize {
     match rng.below(8) {
-        0 => rng.below(n),
-        1 => n - 1,
-        2 => n + rng.between(1, 300),
-        3 | 4 => n + rng.between(1, 9),
-        _ => n,
+        0 => rng.below(due),
+        1 => due.saturating_sub(1),
+        2 => due + rng.between(1, 300),
+        3 | 4 => due + rng.between(1, 9),
+        _ => due,
     }
 }
 
-fn bits(rng: &mut Rng, count: usize) -> Vec<u8> {
+pub(crate) fn bits(rng: &mut Rng, count: usize) -> Vec<u8> {
     (0..count).map(|_| rng.below(2) as u8).collect()
 }
 
@@ -139,6 +139,7 @@ fn alternating(rng: &mut Rng, count: usize) -> Vec<u8> {
 #[cfg(test)]
 mod tests {
     use super::*;
+    use crate::plans::ROUTE_FROM_S;
 
     #[test]
     fn inputs_are_mostly_sound_but_not_always() {
@@ -192,6 +193,7 @@ mod tests {
         let mut rng = Rng::new(4);
         let carriage = |block, source, receiver| Carriage {
             block,
+            kind: ROUTE_FROM_S,
             source,
             receiver,
             senders: singleton(source),

@@ -11,6 +11,8 @@ use crate::plans::{
 pub struct Carriage {
     /// The number of its block, from 0.
     pub block: usize,
+    /// The command that has it, 11 to 14.
+    pub kind: u8,
     pub source: u8,
     pub receiver: u8,
     /// All of its servers but the receiver. If one of them is faulty, what arrives is
@@ -24,12 +26,14 @@ pub fn carriages(plan: &[u8]) -> Vec<Carriage> {
     let mut carriages = Vec::new();
     let mut openings = 0;
     for place in places(plan, &kinds) {
-        match plan[place] {
+        let kind = plan[place];
+        match kind {
             BLOCK => openings += 1,
             NEIGHBOURS => {
                 let (k, neighbours) = (plan[place + 1], plan[place + 2]);
                 carriages.extend(members(neighbours).map(|neighbour| Carriage {
                     block: openings - 1,
+                    kind: NEIGHBOURS,
                     source: neighbour,
                     receiver: k,
                     senders: singleton(neighbour),
@@ -41,6 +45,7 @@ pub fn carriages(plan: &[u8]) -> Vec<Carriage> {
                 let (senders, receiver) = operand.split_at(filled.unwrap_or(ROUTE_OPERAND) - 1);
                 carriages.push(Carriage {
                     block: openings - 1,
+                    kind,
                     source: senders[0],
                     receiver: receiver[0],
                     senders: senders
@@ -71,8 +76,12 @@ mod tests {
             let carriages = carriages(&plan);
             assert_eq!(carriages.len(), totals.carriages);
             assert_eq!(carriages.last().unwrap().block, totals.blocks - 1);
-            // No block is without one: V - F has two servers at least.
-            let next_to = |pair: &[Carriage]| pair[1].block - pair[0].block <= 1;
+            // No block is without one: V - F has two servers at least. In a block the kinds
+            // ascend.
+            let next_to = |pair: &[Carriage]| match pair[1].block - pair[0].block {
+                0 => pair[0].kind <= pair[1].kind,
+                further => further == 1,
+            };
             assert!(carriages.windows(2).all(next_to));
             for carriage in carriages {
                 assert_ne!(carriage.senders & singleton(carriage.source), 0);
@@ -90,16 +99,17 @@ mod tests {
             &[NEIGHBOURS, 2, 0b1010],
             &[END],
         ];
-        let carriage = |block, source, receiver, senders| Carriage {
+        let carriage = |block, kind, source, receiver, senders| Carriage {
             block,
+            kind,
             source,
             receiver,
             senders,
         };
         let expected = [
-            carriage(0, 0, 2, 0b0011),
-            carriage(1, 1, 2, 0b0010),
-            carriage(1, 3, 2, 0b1000),
+            carriage(0, ROUTE_FROM_S, 0, 2, 0b0011),
+            carriage(1, NEIGHBOURS, 1, 2, 0b0010),
+            carriage(1, NEIGHBOURS, 3, 2, 0b1000),
         ];
         assert_eq!(carriages(&plan.concat()), expected);
     }

@@ -14,6 +14,7 @@ mod draft;
 mod plans;
 mod rng;
 mod routes;
+mod states;
 mod twins;
 mod two_way;
 
@@ -26,6 +27,7 @@ pub use damage::{damaged_plan, Damage, DAMAGES};
 pub use draft::places;
 pub use plans::{broken_off_plan, plan, plan_like_bytes};
 pub use rng::Rng;
+pub use states::{arrived, own_input, server, state};
 pub use twins::{with_twins, MOST_LINKS};
 pub use two_way::{
     all_pairs, two_way_card_around, two_way_card_of, two_way_card_with, without_a_link,

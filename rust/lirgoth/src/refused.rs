@@ -84,8 +84,8 @@ fn why_call(ground: CallGround, network: &Network, names: &Names, run: &Run) -> 
         }
         // The buffers of this program have room for every network.
         CallGround::Buffer => None,
-        // A run asks for no link's return.
-        CallGround::OneWay => None,
+        // A run asks for no link's return, and takes its own turns.
+        CallGround::OneWay | CallGround::OutOfTurn => None,
     }
 }
 

@@ -8,6 +8,8 @@
 //! and how many of them must be taken away before the rest falls apart. A *route plan*
 //! fixes every route that their Algorithm BC uses, block by block. The *run* plays all
 //! blocks of an accepted plan and answers with the bit each sound server decides.
+//! *A server's own part* is the same for a server that knows only itself: it asks what
+//! to send, commits what arrived, and ends with the bit that the run gives it.
 //!
 //! A set of servers is one byte throughout, server `i` standing for `1 << i`.
 //!
@@ -23,6 +25,7 @@ mod quick;
 mod refusal;
 mod rehearse;
 mod run;
+mod server;
 mod sets;
 mod split;
 
@@ -36,4 +39,5 @@ pub use quick::{quick_test, Quick};
 pub use refusal::Refusal;
 pub use rehearse::rehearse;
 pub use run::{run, values_by_block};
+pub use server::{ask, commit, side_by_side, start, State};
 pub use split::{split_test, Split};

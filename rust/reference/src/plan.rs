@@ -9,11 +9,11 @@ const PLAN_LIMIT: usize = 1_048_576;
 
 /// Command bytes of the plan.
 const BLOCK: u8 = 0x10;
-const ROUTE_TO_S: u8 = 0x11;
-const ROUTE_WITHIN_S: u8 = 0x12;
-const ROUTE_FROM_S: u8 = 0x13;
-const NEIGHBOURS: u8 = 0x14;
-const END: u8 = 0x15;
+pub(crate) const ROUTE_TO_S: u8 = 0x11;
+pub(crate) const ROUTE_WITHIN_S: u8 = 0x12;
+pub(crate) const ROUTE_FROM_S: u8 = 0x13;
+pub(crate) const NEIGHBOURS: u8 = 0x14;
+pub(crate) const END: u8 = 0x15;
 
 /// A route operand has room for every server once.
 pub(crate) const ROUTE_OPERAND: usize = MAX_SERVERS;
@@ -100,7 +100,7 @@ fn partitions(servers: u8, fault_set: u8) -> impl Iterator<Item = BlockDue> {
 }
 
 /// One command of a plan with its operands.
-enum Command<'p> {
+pub(crate) enum Command<'p> {
     Block { fault_set: u8, a: u8, s: u8 },
     Route { kind: u8, operand: &'p [u8] },
     Neighbours { k: u8, neighbours: u8 },
@@ -112,7 +112,7 @@ enum Command<'p> {
 /// How many operands there must be goes by the command found. One answer serves
 /// for an unknown command, for operands cut off and for no command at all, since
 /// in the last case `place` is the length of the plan.
-fn command_at(plan: &[u8], place: usize) -> Result<Command<'_>, Refusal> {
+pub(crate) fn command_at(plan: &[u8], place: usize) -> Result<Command<'_>, Refusal> {
     match plan[place..] {
         [BLOCK, fault_set, a, s, ..] => Ok(Command::Block { fault_set, a, s }),
         [kind @ (ROUTE_TO_S | ROUTE_WITHIN_S | ROUTE_FROM_S), ref rest @ ..]

@@ -11,7 +11,7 @@ pub enum Refusal {
     Card { number: u8, place: usize },
     /// The route plan is at fault (numbers 1 to 3 and 7 to 11).
     Plan { number: u8, place: usize },
-    /// The rest of the call is at fault (numbers 12 to 15).
+    /// The rest of the call is at fault (numbers 12 to 16).
     Call { number: u8 },
 }
 
@@ -37,13 +37,21 @@ pub(crate) mod ground {
     pub const ROUTES_NOT_DISJOINT: u8 = 10;
     /// Plan: k is not the one due, or N breaks its rule.
     pub const BAD_NEIGHBOURS: u8 = 11;
-    /// Call: inputs are not n bytes of 0 or 1.
+    /// Call: inputs are not n bytes of 0 or 1, or a server's own input is above 1.
     pub const BAD_INPUTS: u8 = 12;
     /// Call: more than f faulty servers, or one that is not in V.
     pub const BAD_FAULTY_SET: u8 = 13;
-    /// Call: the lent buffer is too short: under n bytes for a run, or shorter than
-    /// the card to be written when a card is printed back.
+    /// Call: a server that is not in V, or a state at no place of the plan or with a
+    /// word out of range. It shares its number with the faulty set, which no call for
+    /// a single server has.
+    pub const BAD_STATE: u8 = 13;
+    /// Call: the lent buffer is too short: under n bytes for a run, shorter than the
+    /// card to be written when a card is printed back, or than the values due when a
+    /// server asks.
     pub const SHORT_BUFFER: u8 = 14;
     /// Call: some link of the card has no return, which the quick test is not for.
     pub const NO_RETURN: u8 = 15;
+    /// Call: out of turn, that is a second ask while one is open, or a commit with
+    /// none open.
+    pub const OUT_OF_TURN: u8 = 16;
 }

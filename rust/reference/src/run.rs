@@ -7,7 +7,7 @@ use crate::sets::{contains, is_within, members};
 
 /// The working value of a server that is unsure, and what a message that is
 /// missing or no bit counts as.
-const UNSURE: u8 = 2;
+pub(crate) const UNSURE: u8 = 2;
 /// What the lent buffer holds for a faulty server.
 const FAULTY_MARK: u8 = 2;
 
@@ -73,7 +73,12 @@ pub fn values_by_block(
 }
 
 /// What a call must keep besides its card and plan.
-fn check_call(network: &Network, inputs: &[u8], faulty: u8, out: &[u8]) -> Result<(), Refusal> {
+pub(crate) fn check_call(
+    network: &Network,
+    inputs: &[u8],
+    faulty: u8,
+    out: &[u8],
+) -> Result<(), Refusal> {
     let n = usize::from(network.n);
     if inputs.len() != n || inputs.iter().any(|&input| input > 1) {
         let number = ground::BAD_INPUTS;
@@ -90,8 +95,13 @@ fn check_call(network: &Network, inputs: &[u8], faulty: u8, out: &[u8]) -> Resul
     Ok(())
 }
 
+/// What a byte that arrived is read as, `None` standing for one that is missing.
+pub(crate) fn message(byte: Option<u8>) -> u8 {
+    byte.filter(|&byte| byte <= 1).unwrap_or(UNSURE)
+}
+
 /// The value that all arrivals have in common, else unsure.
-fn common_value(arrivals: impl Iterator<Item = u8>) -> u8 {
+pub(crate) fn common_value(arrivals: impl Iterator<Item = u8>) -> u8 {
     arrivals
         .reduce(|one, other| if one == other { one } else { UNSURE })
         .unwrap_or(UNSURE)
@@ -222,8 +232,7 @@ impl<'a> Run<'a> {
         let number = self.carriage;
         self.carriage += 1;
         if tampered {
-            let byte = self.table.get(number).copied();
-            byte.filter(|&byte| byte <= 1).unwrap_or(UNSURE)
+            message(self.table.get(number).copied())
         } else {
             sent
         }

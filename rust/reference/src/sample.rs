@@ -41,6 +41,9 @@ pub(crate) enum Quorum {
     InsideA,
     /// S is all of V - F, so that step 4 has nothing to do (case 2).
     All,
+    /// S is all of V - F but the lowest server of A, so that both step 2 and
+    /// step 4 have something to do.
+    AllButOneOfA,
 }
 
 /// A plan for the complete network of `n` servers, `n` over 3`f`, that uses links
@@ -78,6 +81,7 @@ fn direct_block(plan: &mut Vec<u8>, f: u8, [fault_set, rest, a]: [u8; 3], quorum
     let s = match quorum {
         Quorum::InsideA => a,
         Quorum::All => rest,
+        Quorum::AllButOneOfA => rest & !(a & a.wrapping_neg()),
     };
     plan.extend([0x10, fault_set, a, s]);
     let mut link = |kind: u8, source: u8, receiver: u8| {

@@ -3,6 +3,7 @@
 use super::examples::{bytes, examples, Example};
 use super::library::*;
 use super::numbers::{listed, members, ordinal, quoted, word};
+use super::own_calls::{Call, What};
 use super::page::{Held, Page};
 use super::plans::{plan, shortest, MORE_THAN_F};
 use super::rehearsal::{rehearsed, Files};
@@ -24,7 +25,8 @@ pub fn stated(documents: &Documents) -> Held {
         "Carriages, and what the plan check answers",
         carriages,
     )?;
-    let captions: [(u8, Caption); 8] = [
+    hold(page, "A server's own part", own_part)?;
+    let captions: [(u8, Caption); 9] = [
         (CardGround::Range.number(), out_of_range),
         (PlanGround::NotDue.number(), not_due),
         (PlanGround::Quorum.number(), quorum),
@@ -33,6 +35,7 @@ pub fn stated(documents: &Documents) -> Held {
         (PlanGround::Reporters.number(), reporters),
         (CallGround::Inputs.number(), inputs),
         (CallGround::FaultSet.number(), faulty_set),
+        (CallGround::OutOfTurn.number(), out_of_turn),
     ];
     for (number, caption) in captions {
         hold(page, refusals::title(page, number)?, caption)?;
@@ -60,6 +63,9 @@ fn written() -> Vec<String> {
     vec![
         format!("`FF x 6` stands for {times} times {byte}."),
         format!("`buffer 1` means that the library's run is called with {lent} byte lent"),
+        "`start 1 00` is the start of server 1 with input 0;".to_string(),
+        "`ask 1` and `commit 1 00` are its ask, with room for all values, and its commit of the arrival 0,"
+            .to_string(),
     ]
 }
 
@@ -257,19 +263,70 @@ fn reporters(examples: &[Example]) -> Option<Vec<String>> {
     ])
 }
 
+/// Four calls of one server.
+fn own_part(examples: &[Example]) -> Option<Vec<String>> {
+    let calls: Option<Vec<&Call>> = examples.iter().map(Example::own_call).collect();
+    let calls = calls?;
+    let (server, kind) = (calls.first()?.server, examples.get(1)?.state.kind as u8);
+    let same = calls.iter().all(|call| call.server == server);
+    let [What::Start { .. }, What::Ask, What::Commit { .. }, What::Ask] =
+        [0, 1, 2, 3].map(|at| &calls[at].what)
+    else {
+        return None;
+    };
+    same.then(|| {
+        vec![format!(
+            "The start of server {server}; its ask of {}, where it has nothing to send;",
+            quoted(&[kind])
+        )]
+    })
+}
+
 fn inputs(examples: &[Example]) -> Option<Vec<String>> {
-    let [example] = examples else { return None };
-    let inputs = example.files.run_in.get(1..)?;
+    let [of_run, of_start] = examples else {
+        return None;
+    };
+    let inputs = of_run.files.run_in.get(1..)?;
     let server = inputs.iter().position(|&input| input > 1)?;
     let input = inputs[server];
-    Some(vec![format!("The input of server {server} is {input}:")])
+    let call = of_start.own_call()?;
+    let same = matches!(call.what, What::Start { input: own } if own == input);
+    let same = same && usize::from(call.server) == server;
+    same.then(|| {
+        vec![format!(
+            "The input of server {server} is {input}, in a run and in its own start:"
+        )]
+    })
 }
 
 fn faulty_set(examples: &[Example]) -> Option<Vec<String>> {
-    let [example] = examples else { return None };
-    let faulty = listed(ServerSet::from_bits(*example.files.run_in.first()?));
-    let f = example.files.card.get(2)?;
+    let [of_run, no_server, no_block] = examples else {
+        return None;
+    };
+    let faulty = listed(ServerSet::from_bits(*of_run.files.run_in.first()?));
+    let f = of_run.files.card.get(2)?;
+    let server = no_server.own_call()?.server;
+    let Files { card, plan, .. } = &no_block.files;
+    let (block, blocks) = (no_block.state.block, check_plan(card, plan).ok()?.blocks);
+    let blocks = word(blocks);
     Some(vec![format!(
-        "Server {faulty} is to be faulty, and f is {f}:"
+        "Server {faulty} is to be faulty, and f is {f}; there is no server {server} to start; and no \
+         block {block}, where the plan has {blocks} block:"
     )])
+}
+
+fn out_of_turn(examples: &[Example]) -> Option<Vec<String>> {
+    let [again, early] = examples else {
+        return None;
+    };
+    let (ask, commit) = (again.own_call()?, early.own_call()?);
+    let (What::Ask, What::Commit { .. }) = (&ask.what, &commit.what) else {
+        return None;
+    };
+    let server = ask.server;
+    (server == commit.server).then(|| {
+        vec![format!(
+            "Server {server} asks a second time; then it commits before it has asked:"
+        )]
+    })
 }

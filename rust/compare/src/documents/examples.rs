@@ -2,10 +2,12 @@
 
 use super::grounds::{self, File};
 use super::numbers::number;
+use super::own_calls::{self, Call};
 use super::page::{Held, Page};
 use super::quick;
 use super::rehearsal::{ran, rehearsed, Files};
 use super::Documents;
+use agreement::State;
 use std::collections::BTreeSet;
 use std::ops::Range;
 
@@ -15,6 +17,8 @@ pub struct Example {
     /// The line of its first line of text, from 0.
     pub line: usize,
     pub files: Files,
+    /// That of a server, where one is given.
+    pub state: State,
     asked: Asked,
     /// Its lines of text.
     pub text: Vec<String>,
@@ -28,6 +32,8 @@ enum Asked {
     /// The library's run, with so many bytes lent.
     Run(usize),
     QuickTest,
+    /// A call for a single server.
+    Own(Call),
 }
 
 /// The examples within `lines`, in order.
@@ -40,13 +46,19 @@ fn example(page: &Page, lines: Range<usize>) -> Result<Example, String> {
     let mut example = Example {
         line: lines.start,
         files: Files::default(),
+        state: State::from_words([0; 5]),
         asked: Asked::default(),
         text: Vec::new(),
     };
     for line in lines {
         let text = page.lines[line].as_str();
         let (first, rest) = text.split_once(' ').unwrap_or((text, ""));
-        let Example { files, asked, .. } = &mut example;
+        let Example {
+            files,
+            state,
+            asked,
+            ..
+        } = &mut example;
         let fault = |what: String| page.fault(line, what);
         match first {
             "card" => files.card = bytes(rest).map_err(fault)?,
@@ -54,6 +66,10 @@ fn example(page: &Page, lines: Range<usize>) -> Result<Example, String> {
             "run.in" => files.run_in = bytes(rest).map_err(fault)?,
             "buffer" => *asked = Asked::Run(number(rest).ok_or_else(|| fault(no_count(rest)))?),
             "quick" if rest == "test" => *asked = Asked::QuickTest,
+            "state" => *state = own_calls::state(rest).map_err(fault)?,
+            "start" | "ask" | "commit" => {
+                *asked = Asked::Own(own_calls::call(first, rest).map_err(fault)?);
+            }
             _ => {
                 if example.text.is_empty() {
                     example.line = line;
@@ -99,12 +115,21 @@ fn no_count(word: &str) -> String {
 impl Example {
     /// What the library answers, as lines of text.
     fn answered(&self) -> Vec<String> {
-        let text = match self.asked {
+        let text = match &self.asked {
             Asked::Rehearse => rehearsed(&self.files),
-            Asked::Run(lent) => ran(&self.files, lent),
+            Asked::Run(lent) => ran(&self.files, *lent),
             Asked::QuickTest => quick::answered(&self.files.card),
+            Asked::Own(call) => own_calls::answered(&self.files, self.state, call),
         };
         text.lines().map(str::to_string).collect()
+    }
+
+    /// The call for a single server, if it is one.
+    pub fn own_call(&self) -> Option<&Call> {
+        match &self.asked {
+            Asked::Own(call) => Some(call),
+            _ => None,
+        }
     }
 
     /// The file that the text says is refused, and the number.

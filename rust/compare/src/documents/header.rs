@@ -13,6 +13,14 @@ pub struct Name {
     list: Option<usize>,
 }
 
+/// A number, decimal or hexadecimal.
+fn value(text: &str) -> Option<usize> {
+    match text.strip_prefix("0x") {
+        Some(digits) => usize::from_str_radix(digits, 16).ok(),
+        None => text.parse().ok(),
+    }
+}
+
 /// Every `AGREEMENT_NAME = NUMBER` of an enum and every `#define AGREEMENT_NAME NUMBER`.
 fn names(page: &Page) -> Vec<Name> {
     let mut names = Vec::new();
@@ -22,7 +30,7 @@ fn names(page: &Page) -> Vec<Name> {
             list = Some(line);
         }
         let mut add = |name: &str, value: &str, list| {
-            if let (true, Ok(value)) = (name.starts_with("AGREEMENT_"), value.parse()) {
+            if let (true, Some(value)) = (name.starts_with("AGREEMENT_"), self::value(value)) {
                 let name = name.to_string();
                 names.push(Name {
                     line,
@@ -68,12 +76,13 @@ pub fn in_parentheses(page: &Page) -> Held {
     Ok(())
 }
 
-/// The enum of the refusals, the one beside those of answers and of what is at fault,
-/// has the wrapper's numbers, ascending.
+/// The enum of the refusals, the one beside those of answers, of what is at fault and of
+/// the kinds of carriages, has the wrapper's numbers, ascending.
 pub fn refusals(page: &Page) -> Held {
     let known = [
         name(page, "AGREEMENT_ANSWERED")?.list,
         name(page, "AGREEMENT_CARD")?.list,
+        name(page, "AGREEMENT_END")?.list,
     ];
     let names = names(page).into_iter();
     let mut refusals = names.filter(|name| name.list.is_some() && !known.contains(&name.list));

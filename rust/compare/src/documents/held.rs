@@ -92,13 +92,17 @@ fn excused(page: &Page) -> BTreeSet<usize> {
     excused.map(|(index, _)| index).collect()
 }
 
+/// How the lines of an example begin that say what is asked.
+const GIVEN: [&str; 8] = [
+    "card", "plan", "run.in", "buffer", "state", "start", "ask", "commit",
+];
+
 /// Whether the line is of the bytes of an example: these are no statement, but what the
 /// library is asked.
 fn is_given(page: &Page, line: usize) -> bool {
     let examples = page.fenced(0..page.lines.len(), "example");
     let first = page.lines[line].split(' ').next().unwrap_or_default();
-    examples.iter().any(|lines| lines.contains(&line))
-        && ["card", "plan", "run.in", "buffer"].contains(&first)
+    examples.iter().any(|lines| lines.contains(&line)) && GIVEN.contains(&first)
 }
 
 /// The documents with the next number in a place of one of them.

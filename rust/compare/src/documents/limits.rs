@@ -5,6 +5,7 @@ use super::commands::route_operand;
 use super::header;
 use super::library::*;
 use super::numbers::{capital, grouped, ordinal, quoted, word};
+use super::own_part::MOST_VALUES;
 use super::page::Held;
 use super::plans::{plan, shortest};
 use super::rehearsal::LENT;
@@ -38,8 +39,9 @@ pub fn stated(documents: &Documents) -> Held {
         format!("`rehearse` lends {} and never meets this.", word(LENT)),
         format!("`AGREEMENT_SERVERS` bytes, which is {servers} and always enough,"),
         format!(
-            "printed `AGREEMENT_CLEAN_CARD_LIMIT`, which is {}.",
-            *CLEAN_LIMIT
+            "printed `AGREEMENT_CLEAN_CARD_LIMIT`, which is {}, and an ask `AGREEMENT_VALUES_LIMIT`, \
+             which is {}.",
+            *CLEAN_LIMIT, *MOST_VALUES
         ),
         format!("A route operand is {operand} bytes: source first"),
         format!("then {fill} up to the {eighth} byte, the fill."),
@@ -59,6 +61,10 @@ fn rows() -> Vec<Vec<String>> {
         "at least the bytes of the clean card; {} are always enough",
         *CLEAN_LIMIT
     );
+    let values = format!(
+        "at least the values due; {} are always enough",
+        *MOST_VALUES
+    );
     let rows = [
         ["servers n; servers that may fail, f", &sizes],
         ["card", &card],
@@ -71,6 +77,9 @@ fn rows() -> Vec<Vec<String>> {
         ["message table", "any number of bytes, or none"],
         ["lent buffer of a run", "at least n bytes"],
         ["lent buffer to print a card", &clean],
+        ["a server's own input", "0 or 1"],
+        ["lent buffer of an ask", &values],
+        ["what arrived, for a commit", "any number of bytes, or none"],
     ];
     rows.map(|row| row.map(str::to_string).to_vec()).to_vec()
 }

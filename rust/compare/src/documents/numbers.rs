@@ -45,10 +45,15 @@ pub fn ordinal(index: usize) -> &'static str {
     WORDS[index]
 }
 
+/// Bytes with a space between them: 0E 10.
+pub fn hexadecimal(bytes: &[u8]) -> String {
+    let bytes: Vec<String> = bytes.iter().map(|byte| format!("{byte:02X}")).collect();
+    bytes.join(" ")
+}
+
 /// Bytes between backticks: `0E 10`.
 pub fn quoted(bytes: &[u8]) -> String {
-    let bytes: Vec<String> = bytes.iter().map(|byte| format!("{byte:02X}")).collect();
-    format!("`{}`", bytes.join(" "))
+    format!("`{}`", hexadecimal(bytes))
 }
 
 /// A set as its byte: `0E`.

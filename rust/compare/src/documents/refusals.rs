@@ -4,6 +4,7 @@ use super::grounds::{self, File};
 use super::header;
 use super::library::*;
 use super::numbers::{self, quoted, row};
+use super::own_part::{self, OF_ASK, OF_COMMIT, OF_START};
 use super::page::{Held, Page};
 use super::Documents;
 use agreement::{check_plan, read_card, CallGround};
@@ -74,6 +75,9 @@ pub fn listed(documents: &Documents) -> Held {
     let call = row(File::Call.numbers());
     let of_run = [CallGround::Inputs, CallGround::FaultSet, CallGround::Buffer];
     let of_run = row(of_run.map(CallGround::number));
+    let of_start = row(own_part::numbers(OF_START));
+    let of_ask = row(own_part::numbers(OF_ASK));
+    let of_commit = row(own_part::numbers(OF_COMMIT));
     let [buffer, one_way] = [CallGround::Buffer, CallGround::OneWay].map(CallGround::number);
     let count = grounds::numbers().len();
     let of_card = Span::over("a card's refusal", &File::Card.numbers());
@@ -84,7 +88,8 @@ pub fn listed(documents: &Documents) -> Held {
         format!("meets none of {of_card},"),
         format!("none of {of_run_in}."),
         format!(
-            "then the call: {of_run} of a run, {buffer} of a card that is printed, {one_way} of the quick test."
+            "then the call: {of_run} of a run, {buffer} of a card that is printed, {one_way} of the quick \
+             test, {of_start} of a start, {of_ask} of an ask, {of_commit} of a commit."
         ),
         format!("{} is no longer given:", row(grounds::no_longer_given())),
         format!("In the order of the table: {card} in a card; {plan} in a plan."),

@@ -15,14 +15,20 @@ use agreement::CallGround;
 /// What the wrapper declares, and calls.
 const DECLARED: &str = include_str!("../../../agreement/src/library.rs");
 
-const FUNCTIONS: [&str; 6] = [
+const FUNCTIONS: [&str; 9] = [
     "agreement_read_card",
     "agreement_print_card",
     "agreement_split_test",
     "agreement_quick_test",
     "agreement_check_plan",
     "agreement_run",
+    "agreement_start",
+    "agreement_ask",
+    "agreement_commit",
 ];
+
+/// Those that take a state.
+const OF_A_STATE: [&str; 2] = ["agreement_ask", "agreement_commit"];
 
 /// The number after `before`, in the declaration of a function.
 fn words(text: &str, function: &str, before: &str) -> Option<usize> {
@@ -33,23 +39,38 @@ fn words(text: &str, function: &str, before: &str) -> Option<usize> {
 
 /// The lengths of the answers, in the order of [`FUNCTIONS`].
 fn lengths(page: &Page) -> Result<[usize; FUNCTIONS.len()], String> {
-    let text = page.lines.join("\n");
     let mut lengths = [0; FUNCTIONS.len()];
     for (length, function) in lengths.iter_mut().zip(FUNCTIONS) {
-        let ours = words(DECLARED, function, "*mut [u64; ").expect("the wrapper's declaration");
-        if words(&text, function, "uint64_t answer[") != Some(ours) {
-            let is_there = |line: &String| line.contains(&format!(" {function}("));
-            let line = page.lines.iter().position(is_there).unwrap_or_default();
-            return Err(page.fault(line, format!("{function} answers with {ours} words")));
-        }
-        *length = ours;
+        *length = same_words(page, function, "*mut [u64; ", "uint64_t answer[")?;
     }
     Ok(lengths)
 }
 
+/// The length of a state.
+fn state_length(page: &Page) -> Result<usize, String> {
+    let mut length = 0;
+    for function in OF_A_STATE {
+        length = same_words(page, function, "*const [u64; ", "const uint64_t state[")?;
+    }
+    Ok(length)
+}
+
+/// How many words the wrapper's declaration of a function has after `ours`, which the
+/// header's must have after `theirs`.
+fn same_words(page: &Page, function: &str, ours: &str, theirs: &str) -> Result<usize, String> {
+    let ours = words(DECLARED, function, ours).expect("the wrapper's declaration");
+    if words(&page.lines.join("\n"), function, theirs) == Some(ours) {
+        return Ok(ours);
+    }
+    let is_there = |line: &String| line.contains(&format!(" {function}("));
+    let line = page.lines.iter().position(is_there).unwrap_or_default();
+    Err(page.fault(line, format!("{function} has {ours} words there")))
+}
+
 pub fn stated(documents: &Documents) -> Held {
     let page = &documents.header;
-    let [reader, _, split, _, check, _] = lengths(page)?;
+    let [reader, _, split, _, check, _, start, ask, _] = lengths(page)?;
+    let state = state_length(page)?;
     let of = |which: &str| name(page, which).map(|name| name.value);
     let answered = of("AGREEMENT_ANSWERED")?;
     let (bad_split, refused) = (of("AGREEMENT_BAD_SPLIT")?, of("AGREEMENT_REFUSED")?);
@@ -58,7 +79,8 @@ pub fn stated(documents: &Documents) -> Held {
     let (eight, before_rows) = (word(servers), reader - servers);
     let zeros = vec!["0"; split - 1].join(", ");
     page.says_all(&[
-        format!("`answer` points to {check}, {split} or {reader} words"),
+        format!("`answer` points to {check}, {split}, {start}, {ask} or {reader} words"),
+        format!("`state` points to {state} words, which it only reads."),
         "a call's refusal has place 0.".to_string(),
         format!("answer: {answered}, n, f, 0 and {eight} rows."),
         format!("Row u, the word answer[{before_rows} + u],"),

@@ -1,8 +1,8 @@
 //! The cases of `data/plans.tsv`, whose answers neither implementation made.
 
-use super::tally::{plain, Answer, Tally};
+use super::tally::{Answer, Tally};
 use crate::converted;
-use crate::text::{cases, hex, hex_beginning, unhex};
+use crate::text::{cases, hex, hex_beginning, plain, unhex};
 
 pub(crate) const PLANS: &str = include_str!("../../data/plans.tsv");
 
@@ -32,7 +32,7 @@ pub fn given_plans() -> Tally {
 }
 
 fn check(who: &str, case: &Case, answer: Answer) {
-    let answer = plain(answer);
+    let answer = plain(&answer);
     assert!(
         answer == case.answer,
         "{who} does not answer as stated\n  card    {} ({})\n  plan    {}\n  stated  {}\

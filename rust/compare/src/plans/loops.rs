@@ -1,7 +1,8 @@
 //! The plans on which library and reference are compared.
 
 use super::tally::{Damages, Tally};
-use crate::{planned, repeated};
+use crate::planned::{planned, SMALL};
+use crate::repeated;
 use generate::{
     all_links, broken_off_plan, card_of, complete_card, damaged_plan, network_card, places,
     with_twins, Rng, DAMAGES,
@@ -92,7 +93,7 @@ pub fn other_cards(seeds: Range<u64>) -> Tally {
     let mut tally = Tally::default();
     for seed in seeds {
         let mut rng = Rng::new(seed);
-        let (n, f) = [(2, 0), (3, 0), (4, 0), (5, 0), (4, 1), (5, 1)][seed as usize % 6];
+        let (n, f) = SMALL[seed as usize % SMALL.len()];
         let (card, plan) = planned(&mut rng, n, f);
         let all = all_links(n).len();
         let lacking = 1 + rng.below(all);
@@ -120,7 +121,7 @@ pub fn twin_cables(seeds: Range<u64>, times: usize) -> Tally {
     let mut tally = Tally::default();
     for seed in seeds {
         let mut rng = Rng::new(seed);
-        let (n, f) = [(2, 0), (3, 0), (4, 0), (5, 0), (4, 1), (5, 1)][seed as usize % 6];
+        let (n, f) = SMALL[seed as usize % SMALL.len()];
         let (card, plan) = planned(&mut rng, n, f);
         for number in 0..=times {
             let plan = match number {

@@ -1,21 +1,13 @@
 //! Comparing the two implementations on one plan, and counting what they answer.
 
-use crate::converted;
-use crate::text::{hex, hex_beginning, plain_refusal};
+use crate::text::{hex, hex_beginning, plain};
+use crate::{add, converted};
 use generate::DAMAGES;
 use reference::{Refusal, Totals};
 use std::fmt::{self, Arguments, Display, Formatter};
 
 /// What the plan check answers.
 pub(super) type Answer = Result<Totals, Refusal>;
-
-/// The plan check's answer in the plain form of `data/plans.tsv`.
-pub(super) fn plain(answer: Answer) -> String {
-    match answer {
-        Ok(Totals { blocks, carriages }) => format!("ok {blocks} {carriages}"),
-        Err(refusal) => plain_refusal(refusal),
-    }
-}
 
 /// How often each answer was met.
 #[derive(Debug, Clone, Default)]
@@ -36,12 +28,8 @@ impl Tally {
 
     pub fn add(&mut self, other: &Tally) {
         self.accepted += other.accepted;
-        for (count, more) in self.card_refused.iter_mut().zip(other.card_refused) {
-            *count += more;
-        }
-        for (count, more) in self.plan_refused.iter_mut().zip(other.plan_refused) {
-            *count += more;
-        }
+        add(&mut self.card_refused, &other.card_refused);
+        add(&mut self.plan_refused, &other.plan_refused);
     }
 
     /// Asks the library and the reference about `plan` for `card`, counts the answer
@@ -57,8 +45,8 @@ impl Tally {
                  \n  made by    {made_by}\n  library    {}\n  reference  {}",
                 hex(card),
                 hex_beginning(plan),
-                plain(library),
-                plain(reference)
+                plain(&library),
+                plain(&reference)
             );
         }
         match reference {
@@ -104,10 +92,8 @@ impl Default for Damages {
 
 impl Damages {
     pub fn add(&mut self, other: &Damages) {
-        for index in 0..DAMAGES.len() {
-            self.made[index] += other.made[index];
-            self.met[index] += other.met[index];
-        }
+        add(&mut self.made, &other.made);
+        add(&mut self.met, &other.met);
     }
 
     /// Counts one plan that had the damage of that index done to it.

@@ -2,7 +2,8 @@
 //! cards of the other data files.
 
 use super::round_trip::Trips;
-use super::tally::{Call, Outcome, Tally};
+use super::tally::{Call, Tally};
+use crate::lent::Call as _;
 use crate::text::{cases, unhex};
 use crate::{cards, plans, runs};
 
@@ -27,10 +28,9 @@ pub fn given_prints() -> Tally {
             card: &case.card,
             lent: case.lent,
         };
-        check("library", &case, &call, call.of_library());
-        check("reference", &case, &call, call.of_reference());
-        // They are alike by now; this looks at the rest of the memory and counts.
         let made_by = format_args!("data/prints.tsv, {}", case.note);
+        call.held_to(case.answer, made_by);
+        // They are alike by now; this looks at the rest of the memory and counts.
         given.call(&call, made_by);
         others.compare(&case.card, made_by);
     }
@@ -48,17 +48,6 @@ pub fn given_round_trips() -> [Trips; 3] {
         }
         trips
     })
-}
-
-fn check(who: &str, case: &Case, call: &Call, outcome: Outcome) {
-    let answer = outcome.plain();
-    assert!(
-        answer == case.answer,
-        "{who} does not answer as stated\n{call}\n  made by    {}\n  stated     {}\
-         \n  answer     {answer}",
-        case.note,
-        case.answer
-    );
 }
 
 fn parse(fields: Vec<&'static str>) -> Case {

@@ -2,16 +2,11 @@
 
 use super::round_trip;
 use crate::converted;
-use crate::text::{hex, hex_beginning, plain_refusal};
+use crate::lent::{self, Call as _, Outcome};
+use crate::text::hex;
 use agreement::CLEAN_CARD_LIMIT;
 use reference::Refusal;
 use std::fmt::{self, Arguments, Display, Formatter};
-
-/// What printing a card answers, the lent buffer aside.
-pub(super) type Answer = Result<usize, Refusal>;
-
-/// How many bytes lie on either side of the lent ones.
-const MARGIN: usize = 24;
 
 /// More than a card of any kind has.
 const FAR_TOO_MANY: usize = 1_200;
@@ -52,36 +47,21 @@ pub(super) struct Call<'a> {
     pub lent: usize,
 }
 
-impl Call<'_> {
-    pub fn of_library(&self) -> Outcome {
-        self.outcome(|card, lent| agreement::print_card(card, lent).map_err(converted::refusal))
+impl lent::Call for Call<'_> {
+    type Answer = usize;
+
+    fn of_library(&self) -> Outcome<usize> {
+        Outcome::of(self.lent, |lent| {
+            agreement::print_card(self.card, lent).map_err(converted::refusal)
+        })
     }
 
-    pub fn of_reference(&self) -> Outcome {
-        self.outcome(reference::print_card)
+    fn of_reference(&self) -> Outcome<usize> {
+        Outcome::of(self.lent, |lent| reference::print_card(self.card, lent))
     }
 
-    fn outcome(&self, print: fn(&[u8], &mut [u8]) -> Answer) -> Outcome {
-        let mut memory = pattern(self.lent);
-        let answer = print(self.card, &mut memory[MARGIN..MARGIN + self.lent]);
-        Outcome { answer, memory }
-    }
-
-    /// What is wrong with `outcome`, whoever made it, by the demands on every call.
-    fn fault(&self, outcome: &Outcome) -> Option<&'static str> {
-        let before = pattern(self.lent);
-        let Ok(bytes) = outcome.answer else {
-            return (outcome.memory != before).then_some("a refused call wrote");
-        };
-        if bytes > self.lent {
-            return Some("more bytes were printed than are lent");
-        }
-        // Each byte of a card is another than the one that was there.
-        let written = MARGIN..MARGIN + bytes;
-        let mut places = before.iter().zip(&outcome.memory).enumerate();
-        let wrong =
-            places.any(|(place, (before, after))| written.contains(&place) == (before == after));
-        wrong.then_some("the bytes that were written are not the first ones of the buffer")
+    fn fault(&self, outcome: &Outcome<usize>) -> Option<&'static str> {
+        outcome.fault(outcome.answer.unwrap_or_default())
     }
 }
 
@@ -89,54 +69,6 @@ impl Display for Call<'_> {
     fn fmt(&self, out: &mut Formatter) -> fmt::Result {
         let (card, lent) = (hex(self.card), self.lent);
         write!(out, "  card       {card}\n  lent       {lent} bytes")
-    }
-}
-
-/// Bytes that no clean card has, different from place to place: the margins and between
-/// them as many as are lent.
-fn pattern(lent: usize) -> Vec<u8> {
-    let places = 0..MARGIN + lent + MARGIN;
-    places.map(|place| 9 + (place % 247) as u8).collect()
-}
-
-/// What a call came to.
-#[derive(Debug, Clone, PartialEq, Eq)]
-pub(super) struct Outcome {
-    pub answer: Answer,
-    /// The lent bytes after the call, with the margins around them.
-    memory: Vec<u8>,
-}
-
-impl Outcome {
-    /// The lent bytes.
-    pub fn lent(&self) -> &[u8] {
-        &self.memory[MARGIN..self.memory.len() - MARGIN]
-    }
-
-    /// The answer in the plain form of `data/prints.tsv`.
-    pub fn plain(&self) -> String {
-        match self.answer {
-            Ok(bytes) => {
-                let printed = self.lent().get(..bytes).unwrap_or_default();
-                format!("ok {bytes} {}", hex(printed))
-            }
-            Err(refusal) => plain_refusal(refusal),
-        }
-    }
-}
-
-impl Display for Outcome {
-    fn fmt(&self, out: &mut Formatter) -> fmt::Result {
-        let (before, rest) = self.memory.split_at(MARGIN);
-        let (lent, after) = rest.split_at(rest.len() - MARGIN);
-        write!(
-            out,
-            "{}, lent {} between {} and {}",
-            self.plain(),
-            hex_beginning(lent),
-            hex(before),
-            hex(after)
-        )
     }
 }
 
@@ -195,18 +127,7 @@ impl Tally {
     /// Panics if library and reference differ, in the answer or in a byte of memory, or
     /// if what they agree on cannot be.
     pub(super) fn call(&mut self, call: &Call, made_by: Arguments) {
-        let library = call.of_library();
-        let reference = call.of_reference();
-        if library != reference {
-            panic!(
-                "library and reference differ\n{call}\n  made by    {made_by}\
-                 \n  library    {library}\n  reference  {reference}"
-            );
-        }
-        if let Some(fault) = call.fault(&library) {
-            panic!("{fault}\n{call}\n  made by    {made_by}\n  both       {library}");
-        }
-        match library.answer {
+        match call.compared(made_by).answer {
             Ok(_) => self.printed += 1,
             Err(Refusal::Card { number, .. } | Refusal::Call { number }) => {
                 self.calls_refused[usize::from(number)] += 1;

@@ -1,9 +1,9 @@
 //! The cases of `data/quicks.tsv`, whose answers neither implementation made, and the cards
 //! of the other data files.
 
-use super::tally::{plain, Answer, Tally};
+use super::tally::{Answer, Tally};
 use crate::converted;
-use crate::text::{cases, hex, unhex};
+use crate::text::{cases, hex, plain, unhex};
 use crate::{cards, plans, runs};
 
 const QUICKS: &str = include_str!("../../data/quicks.tsv");
@@ -44,7 +44,7 @@ pub fn other_given_cards() -> [Tally; 3] {
 }
 
 fn check(who: &str, case: &Case, answer: Answer) {
-    let answer = plain(answer);
+    let answer = plain(&answer);
     assert!(
         answer == case.answer,
         "{who} does not answer as stated\n  card    {} ({})\n  stated  {}\n  answer  {answer}",

@@ -2,21 +2,17 @@
 
 use super::rule;
 use crate::converted;
-use crate::text::{hex, plain_refusal};
+use crate::text::{hex, plain, Plain};
 use reference::{Quick, Refusal};
 use std::fmt::{self, Arguments, Display, Formatter};
 
 /// What the quick test answers on a card.
 pub(super) type Answer = Result<Quick, Refusal>;
 
-/// An answer in the plain form of `data/quicks.tsv`.
-pub(super) fn plain(answer: Answer) -> String {
-    match answer {
-        Ok(Quick { holds, n, least }) => {
-            let word = if holds { "yes" } else { "no" };
-            format!("ok {word} {n} {least}")
-        }
-        Err(refusal) => plain_refusal(refusal),
+impl Plain for Quick {
+    fn plain(&self) -> String {
+        let word = if self.holds { "yes" } else { "no" };
+        format!("{word} {} {}", self.n, self.least)
     }
 }
 
@@ -61,8 +57,8 @@ impl Tally {
                 "library and reference differ\n  card       {}\n  made by    {made_by}\
                  \n  library    {}\n  reference  {}",
                 hex(card),
-                plain(library),
-                plain(reference)
+                plain(&library),
+                plain(&reference)
             );
         }
         if let Some(fault) = rule::fault(card, answer) {
@@ -70,7 +66,7 @@ impl Tally {
                 "{fault}\n  card       {}\n  made by    {made_by}\n  both       {}\
                  \n  read       {:?}\n  split      {:?}",
                 hex(card),
-                plain(library),
+                plain(&library),
                 agreement::read_card(card),
                 agreement::split_test(card)
             );

@@ -12,8 +12,9 @@
 //! The judge is the library: every table tried goes to it, and its answer must be
 //! that of the reference and keep what is demanded of every run.
 
-use super::loops::{input_bits, Planned, BLOCK};
 use super::tally::Call;
+use crate::lent::Call as _;
+use crate::planned::{input_bits, Planned, BLOCK};
 use generate::{aimed_table, Rng, AIMS};
 use std::fmt::{self, Display, Formatter};
 use std::ops::Range;

@@ -1,12 +1,10 @@
 //! The cases of `data/runs.tsv`, whose answers neither implementation made.
 
-use super::tally::{Call, Outcome, Tally};
-use crate::text::{cases, unhex};
+use super::tally::{Call, Tally};
+use crate::lent::Call as _;
+use crate::text::{cases, plan_after, unhex};
 
 pub(crate) const RUNS: &str = include_str!("../../data/runs.tsv");
-
-/// What stands for the plan of the case before.
-const SAME_PLAN: &str = "=";
 
 /// One line of the file.
 struct Case {
@@ -36,25 +34,13 @@ pub fn given_runs() -> Tally {
             table: &case.table,
             lent: case.lent,
         };
-        check("library", &case, &call, call.of_library());
-        check("reference", &case, &call, call.of_reference());
+        let made_by = format_args!("data/runs.tsv, {}", case.note);
+        call.held_to(case.answer, made_by);
         // They are alike by now; this looks at the rest of the memory and counts.
-        tally.compare(&call, format_args!("data/runs.tsv, {}", case.note));
+        tally.compare(&call, made_by);
         plan = case.plan;
     }
     tally
-}
-
-fn check(who: &str, case: &Case, call: &Call, outcome: Outcome) {
-    // An answered call has n inputs.
-    let answer = outcome.plain(case.inputs.len());
-    assert!(
-        answer == case.answer,
-        "{who} does not answer as stated\n{call}\n  made by    {}\n  stated     {}\
-         \n  answer     {answer}",
-        case.note,
-        case.answer
-    );
 }
 
 /// `before` is the plan of the case before.
@@ -65,10 +51,7 @@ fn parse(fields: Vec<&'static str>, before: Vec<u8>) -> Case {
     Case {
         note,
         card: unhex(card),
-        plan: match plan {
-            SAME_PLAN => before,
-            digits => unhex(digits),
-        },
+        plan: plan_after(before, plan),
         inputs: unhex(inputs),
         faulty: faulty.parse().expect("a set as a number"),
         table: unhex(table),

@@ -1,47 +1,15 @@
 //! The calls on which library and reference are compared.
 
 use super::tally::{Call, Tally};
+use crate::planned::{any_bits, each_at_fault, input_bits, Planned, BLOCK, NEIGHBOURS};
 use crate::plans::PLAN_LIMIT;
-use crate::{planned, repeated};
+use crate::repeated;
 use generate::{
-    aimed_table, carriages, complete_card, damaged_plan, faulty, inputs, lent, table, with_twins,
-    Carriage, Rng, AIMS,
+    aimed_table, carriages, complete_card, faulty, inputs, lent, with_twins, Carriage, Rng, AIMS,
 };
 use std::ops::Range;
 
-/// Command bytes of the plan.
-pub(super) const BLOCK: u8 = 0x10;
-const NEIGHBOURS: u8 = 0x14;
-
-/// A network with an accepted plan.
-pub(super) struct Planned {
-    pub n: u8,
-    pub f: u8,
-    pub card: Vec<u8>,
-    pub plan: Vec<u8>,
-    pub carriages: Vec<Carriage>,
-}
-
 impl Planned {
-    /// A random network without a bad split, and a random plan for it.
-    pub fn draw(rng: &mut Rng, n: u8, f: u8) -> Planned {
-        let (card, plan) = planned(rng, n, f);
-        let carriages = carriages(&plan);
-        Planned {
-            n,
-            f,
-            card,
-            plan,
-            carriages,
-        }
-    }
-
-    /// Every faulty set that is not refused: at most f servers.
-    fn faulty_sets(&self) -> impl Iterator<Item = u8> + '_ {
-        let servers = u8::MAX >> (8 - self.n);
-        (0..=servers).filter(|set| set.count_ones() <= u32::from(self.f))
-    }
-
     /// A call with a buffer of n bytes.
     pub fn call<'a>(&'a self, inputs: &'a [u8], faulty: u8, table: &'a [u8]) -> Call<'a> {
         Call {
@@ -53,28 +21,6 @@ impl Planned {
             lent: usize::from(self.n),
         }
     }
-
-    /// A table of any kind against servers with these inputs, and what kind it is of.
-    fn any_table(&self, rng: &mut Rng, inputs: &[u8]) -> (Vec<u8>, &'static str) {
-        match rng.below(2) {
-            0 => (table(rng, self.carriages.len()), "any"),
-            _ => {
-                let aim = rng.below(AIMS);
-                (aimed_table(rng, aim, &self.carriages, inputs), "aimed")
-            }
-        }
-    }
-}
-
-/// Input bits for `n` servers, server i having bit i of `bits`.
-pub(super) fn input_bits(n: u8, bits: usize) -> Vec<u8> {
-    (0..n).map(|server| (bits >> server & 1) as u8).collect()
-}
-
-/// Random input bits for `n` servers.
-fn any_bits(rng: &mut Rng, n: u8) -> Vec<u8> {
-    let bits = rng.below(1 << n);
-    input_bits(n, bits)
 }
 
 /// For each seed a network of `n` servers and `f` faults with an accepted plan, and
@@ -89,7 +35,7 @@ pub fn random_calls(n: u8, f: u8, seeds: Range<u64>, times: usize) -> Tally {
             let inputs = inputs(&mut rng, n);
             let faulty = faulty(&mut rng, n, f);
             let (table, kind) = planned.any_table(&mut rng, &inputs);
-            let lent = lent(&mut rng, n);
+            let lent = lent(&mut rng, n.into());
             let call = Call {
                 lent,
                 ..planned.call(&inputs, faulty, &table)
@@ -350,35 +296,20 @@ pub fn wrong_calls(n: u8, f: u8) -> Tally {
 /// networks, plans that are too long.
 pub fn refused_plans(seeds: Range<u64>, times: usize) -> Tally {
     let mut tally = Tally::default();
-    let too_long = vec![BLOCK; PLAN_LIMIT + 1];
-    for seed in seeds {
-        let mut rng = Rng::new(seed);
-        let (n, f) = [(2, 0), (3, 0), (4, 0), (5, 0), (4, 1), (5, 1)][seed as usize % 6];
-        let planned = Planned::draw(&mut rng, n, f);
-        for number in 0..times {
-            let damaged = damaged_plan(&mut rng, &planned.card, &planned.plan);
-            let any_card = generate::card(&mut rng);
-            let other_card = complete_card(2 + rng.below(7) as u8, rng.below(3) as u8);
-            let (card, plan): (&[u8], &[u8]) = match number % 4 {
-                0 => (&any_card, &planned.plan),
-                1 => (&other_card, &planned.plan),
-                2 if rng.below(8) == 0 => (&planned.card, &too_long),
-                _ => (&planned.card, &damaged),
-            };
-            let inputs = inputs(&mut rng, n);
-            let faulty = faulty(&mut rng, n, f);
-            let (table, kind) = planned.any_table(&mut rng, &inputs);
-            let call = Call {
-                card,
-                plan,
-                inputs: &inputs,
-                faulty,
-                table: &table,
-                lent: lent(&mut rng, n),
-            };
-            let made_by = format_args!("refused_plans, seed {seed}, call {number}, {kind} table");
-            tally.compare(&call, made_by);
-        }
-    }
+    each_at_fault(seeds, times, |planned, rng, card, plan, made_by| {
+        let Planned { n, f, .. } = *planned;
+        let inputs = inputs(rng, n);
+        let faulty = faulty(rng, n, f);
+        let (table, _) = planned.any_table(rng, &inputs);
+        let call = Call {
+            card,
+            plan,
+            inputs: &inputs,
+            faulty,
+            table: &table,
+            lent: lent(rng, n.into()),
+        };
+        tally.compare(&call, made_by);
+    });
     tally
 }

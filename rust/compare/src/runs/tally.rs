@@ -1,26 +1,18 @@
 //! Comparing the two implementations on one call, and counting what they answer.
 
-use crate::converted;
-use crate::text::{hex, hex_beginning, plain_refusal};
+use crate::lent::{self, Call as _, Outcome};
+use crate::text::{hex, hex_beginning};
+use crate::{add, converted};
 use agreement::ServerSet;
 use reference::{Refusal, Totals};
 use std::fmt::{self, Arguments, Display, Formatter};
 
-/// What a run answers, the lent buffer aside.
-pub(super) type Answer = Result<Totals, Refusal>;
-
-/// A run of either implementation.
-type Run = fn(&[u8], &[u8], &[u8], u8, &[u8], &mut [u8]) -> Answer;
-
 /// What the lent buffer holds for a faulty server.
 const FAULTY_MARK: u8 = 2;
 
-/// How many bytes lie on either side of the lent ones.
-const MARGIN: usize = 24;
-
 /// A call to run.
 #[derive(Debug, Clone, Copy)]
-pub(super) struct Call<'a> {
+pub(crate) struct Call<'a> {
     pub card: &'a [u8],
     pub plan: &'a [u8],
     pub inputs: &'a [u8],
@@ -30,44 +22,43 @@ pub(super) struct Call<'a> {
     pub lent: usize,
 }
 
-impl Call<'_> {
-    pub fn of_library(&self) -> Outcome {
-        self.outcome(|card, plan, inputs, faulty, table, lent| {
-            let faulty = ServerSet::from_bits(faulty);
-            converted::totals(agreement::run(card, plan, inputs, faulty, table, lent))
+impl lent::Call for Call<'_> {
+    type Answer = Totals;
+
+    fn of_library(&self) -> Outcome<Totals> {
+        let faulty = ServerSet::from_bits(self.faulty);
+        Outcome::of(self.lent, |lent| {
+            converted::totals(agreement::run(
+                self.card,
+                self.plan,
+                self.inputs,
+                faulty,
+                self.table,
+                lent,
+            ))
         })
     }
 
-    pub fn of_reference(&self) -> Outcome {
-        self.outcome(reference::run)
+    fn of_reference(&self) -> Outcome<Totals> {
+        Outcome::of(self.lent, |lent| {
+            reference::run(
+                self.card,
+                self.plan,
+                self.inputs,
+                self.faulty,
+                self.table,
+                lent,
+            )
+        })
     }
 
-    fn outcome(&self, run: Run) -> Outcome {
-        let mut memory = pattern(self.lent);
-        let answer = run(
-            self.card,
-            self.plan,
-            self.inputs,
-            self.faulty,
-            self.table,
-            &mut memory[MARGIN..MARGIN + self.lent],
-        );
-        Outcome { answer, memory }
-    }
-
-    /// What is wrong with `outcome`, whoever made it, by the demands on every run.
-    pub fn fault(&self, outcome: &Outcome) -> Option<&'static str> {
-        let before = pattern(self.lent);
-        if outcome.answer.is_err() {
-            return (outcome.memory != before).then_some("a refused call wrote");
+    fn fault(&self, outcome: &Outcome<Totals>) -> Option<&'static str> {
+        // An answered call has n inputs.
+        let fault = outcome.fault(self.inputs.len());
+        if fault.is_some() || outcome.answer.is_err() {
+            return fault;
         }
-        // An answered call has n inputs and lends n bytes at least.
-        let written = MARGIN..MARGIN + self.inputs.len();
-        let untouched = |memory: &[u8]| [&memory[..MARGIN], &memory[written.end..]].concat();
-        if self.inputs.len() > self.lent || untouched(&outcome.memory) != untouched(&before) {
-            return Some("bytes were written that are not the n first");
-        }
-        let decided = &outcome.memory[written];
+        let decided = outcome.written();
         let is_faulty = |server: &usize| self.faulty >> server & 1 == 1;
         let (faulty, sound): (Vec<usize>, Vec<usize>) = (0..decided.len()).partition(is_faulty);
         if faulty.iter().any(|&server| decided[server] != FAULTY_MARK) {
@@ -85,13 +76,16 @@ impl Call<'_> {
         }
         None
     }
+}
 
-    /// Whether the sound servers start out with different inputs.
-    fn is_contested(&self) -> bool {
+impl Call<'_> {
+    /// The bit that was decided, if the sound servers start out with different inputs.
+    pub fn contested_bit(&self, decided: &[u8]) -> Option<u8> {
         let is_sound = |server: &usize| self.faulty >> server & 1 == 0;
         let mut sound = (0..self.inputs.len()).filter(is_sound);
-        let first = sound.next().map(|server| self.inputs[server]);
-        sound.any(|server| Some(self.inputs[server]) != first)
+        let first = sound.next()?;
+        let contested = sound.any(|server| self.inputs[server] != self.inputs[first]);
+        contested.then(|| decided[first])
     }
 }
 
@@ -107,57 +101,6 @@ impl Display for Call<'_> {
             self.faulty,
             hex_beginning(self.table),
             self.lent
-        )
-    }
-}
-
-/// Bytes that no run writes, different from place to place: the margins and between
-/// them as many as are lent.
-fn pattern(lent: usize) -> Vec<u8> {
-    let places = 0..MARGIN + lent + MARGIN;
-    places.map(|place| 3 + (place % 253) as u8).collect()
-}
-
-/// What a call came to.
-#[derive(Debug, Clone, PartialEq, Eq)]
-pub(super) struct Outcome {
-    pub answer: Answer,
-    /// The lent bytes after the call, with the margins around them.
-    memory: Vec<u8>,
-}
-
-impl Outcome {
-    /// The lent bytes.
-    pub fn lent(&self) -> &[u8] {
-        &self.memory[MARGIN..self.memory.len() - MARGIN]
-    }
-
-    /// The answer in the plain form of `data/runs.tsv`, if there are `n` servers.
-    pub fn plain(&self, n: usize) -> String {
-        match self.answer {
-            Ok(Totals { blocks, carriages }) => {
-                let decided = self.lent().get(..n).unwrap_or_default();
-                format!("ok {blocks} {carriages} {}", hex(decided))
-            }
-            Err(refusal) => plain_refusal(refusal),
-        }
-    }
-}
-
-impl Display for Outcome {
-    fn fmt(&self, out: &mut Formatter) -> fmt::Result {
-        let answer = match self.answer {
-            Ok(Totals { blocks, carriages }) => format!("ok {blocks} {carriages}"),
-            Err(refusal) => plain_refusal(refusal),
-        };
-        let (before, rest) = self.memory.split_at(MARGIN);
-        let (lent, after) = rest.split_at(rest.len() - MARGIN);
-        write!(
-            out,
-            "{answer}, lent {} between {} and {}",
-            hex_beginning(lent),
-            hex(before),
-            hex(after)
         )
     }
 }
@@ -189,11 +132,6 @@ impl Tally {
     }
 
     pub fn add(&mut self, other: &Tally) {
-        fn add<const N: usize>(counts: &mut [usize; N], more: &[usize; N]) {
-            for (count, more) in counts.iter_mut().zip(more) {
-                *count += more;
-            }
-        }
         add(&mut self.answered, &other.answered);
         add(&mut self.contested, &other.contested);
         add(&mut self.card_refused, &other.card_refused);
@@ -206,30 +144,18 @@ impl Tally {
     ///
     /// Panics if they differ, in the answer or in a byte of memory, or if what they
     /// agree on cannot be; `made_by` then says how to get the call again.
-    pub(super) fn compare(&mut self, call: &Call, made_by: Arguments) -> Outcome {
-        let library = call.of_library();
-        let reference = call.of_reference();
-        if library != reference {
-            panic!(
-                "library and reference differ\n{call}\n  made by    {made_by}\
-                 \n  library    {library}\n  reference  {reference}"
-            );
-        }
-        if let Some(fault) = call.fault(&library) {
-            panic!("{fault}\n{call}\n  made by    {made_by}\n  both       {library}");
-        }
-        self.count(call, &library);
-        library
+    pub(super) fn compare(&mut self, call: &Call, made_by: Arguments) -> Outcome<Totals> {
+        let outcome = call.compared(made_by);
+        self.count(call, &outcome);
+        outcome
     }
 
-    fn count(&mut self, call: &Call, outcome: &Outcome) {
+    fn count(&mut self, call: &Call, outcome: &Outcome<Totals>) {
         match outcome.answer {
             Ok(_) => {
                 self.answered[call.faulty.count_ones() as usize] += 1;
-                if call.is_contested() {
-                    // The mark of a faulty server is no bit.
-                    let bit = outcome.lent().iter().find(|&&byte| byte <= 1);
-                    self.contested[usize::from(*bit.expect("a decided bit"))] += 1;
+                if let Some(bit) = call.contested_bit(outcome.written()) {
+                    self.contested[usize::from(bit)] += 1;
                 }
             }
             Err(Refusal::Card { number, .. }) => self.card_refused[usize::from(number)] += 1,
