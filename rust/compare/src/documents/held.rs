@@ -9,9 +9,9 @@ use std::ops::Range;
 
 /// Where a number, written `№`, is not held: what a number there means is no answer of
 /// the library.
-const NOT_HELD: [&str; 27] = [
+const NOT_HELD: [&str; 31] = [
     // Names: of theorems and demands, of the paper's cases, of the steps of a block, of
-    // rules by their place in a list, of bits and bytes.
+    // rules by their place in a list, of must-fail edits, of bits and bytes.
     "Theorem №",
     "Definition №",
     "Demand №",
@@ -20,6 +20,10 @@ const NOT_HELD: [&str; 27] = [
     "step № or №",
     "steps № and №",
     "rules № to №",
+    "step-№-left-out",
+    "step-№-late",
+    "numbered-from-№",
+    "buffer-of-№",
     "x86-№",
     "UTF-№",
     // P8 and P9 are about a single step. They are proved, in crates/table.

@@ -4,7 +4,7 @@ use super::grounds::{self, File};
 use super::header;
 use super::library::*;
 use super::numbers::{self, quoted, row};
-use super::own_part::{self, OF_ASK, OF_COMMIT, OF_START};
+use super::own_part::{self, MOST_VALUES, OF_ASK, OF_COMMIT, OF_START};
 use super::page::{Held, Page};
 use super::Documents;
 use agreement::{check_plan, read_card, CallGround};
@@ -101,6 +101,13 @@ pub fn listed(documents: &Documents) -> Held {
         format!("number and place of each of the {count} refusals"),
         format!("card, plan, then {of_run};"),
         format!("and the run refused {of_run} and for its plan"),
+        format!(
+            "card, plan, then {of_start} of a start, {of_ask} of an ask, {of_commit} of a commit;"
+        ),
+        format!(
+            "an ask into a buffer of {} bytes or more is never refused {buffer}",
+            *MOST_VALUES
+        ),
     ])
 }
 
