@@ -5,20 +5,17 @@
 -- Assumes nothing.
 use mathlib.Core.Path.{_≡_, refl, sym, ap, _∙_}
 use mathlib.Core.List.{List}
-use Prim.Native.Nat.{ℕ, _+_, _-_, _*_, _≤_, _<_}
+use Prim.Native.Nat.{ℕ, _+_, _≤_, _<_}
 use native.Mathlib.Omega.{arith}
-use lib.ListN.{length, take, drop, length-drop}
+use lib.ListN.{length, drop, length-drop}
 use Rattle.sets.specs.Sets.{size, TableOf}
 use Rattle.plan.proofs.Groups.{part-rest}
 use Rattle.rules.specs.Blocks.{decodeBlock, lengthOf}
 use Rattle.carriage.specs.declared.opening.Opening.{Opening}
 use Rattle.carriage.specs.Openings.{OpensBy, Opens, Readable, Ready, blockAt}
+use Rattle.carriage.proofs.Routes.{partFrom}
 use Rattle.carriage.proofs.Opened.{opens-by}
 use Rattle.carriage.proofs.Placed.{block-bytes}
-
--- the plan from a place on, as the code takes it
-abbrev pub partFrom : List ℕ → ℕ → List ℕ
-partFrom plan at = take (length plan - at) (drop at plan)
 
 module _ (n f : ℕ) (plan : List ℕ) (at : ℕ) (few : n ≤ 8) (bound : f ≤ 2) (short : length plan ≤ 1048576) (here : Readable n f (drop at plan))
     (sizes : List ℕ) (table : TableOf size sizes) (o : Opening) (by : OpensBy sizes n f (partFrom plan at) o) (u : o .fault < 256) (q : o .quorum < 256) where

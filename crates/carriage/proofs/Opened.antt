@@ -4,7 +4,7 @@
 --     inward-by, .. the counts as the code makes them up
 --     opens-by      by the table of sizes the counts of routes are those that are due
 -- Assumes nothing.
-use mathlib.Core.Path.{_≡_, refl, sym, ap, _∙_}
+use mathlib.Core.Path.{_≡_, refl, sym, _∙_}
 use mathlib.Core.List.{List}
 use Prim.Native.Nat.{ℕ, zero, suc, min, _+_, _-_, _*_, _≤_, _<_}
 use native.Mathlib.Nat.{mul-le-mul, mul-sub, mul-suc}

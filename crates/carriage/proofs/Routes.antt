@@ -1,13 +1,13 @@
 -- The routes of a block, one after the other, on plain lists.
 --     path-is, ..   the servers of a route: its path is the part of the operand before the fill
---     operand       the bytes of the next route
+--     partFrom      the bytes from a place on; operand: those of the next route
 --     Ahead         k routes are behind, the others start at a place; ahead-starts, ahead-goes
 --     routes-..     the routes left, the next one in front
 --     route-..      the next route: its operand is whole, two servers are there, source and receiver are below 8
 -- Assumes nothing.
 use mathlib.Core.Path.{_≡_, refl, sym, ap, _∙_}
 use mathlib.Core.List.{List, [], _∷_, List·Memᴰ·head, List·Memᴰ·tail}
-use Prim.Native.Nat.{ℕ, zero, suc, _+_, _-_, _*_, _≤_, _<_}
+use Prim.Native.Nat.{ℕ, suc, _+_, _-_, _*_, _≤_, _<_}
 use native.Mathlib.Omega.{arith}
 use lib.ListN.{length, getD, take, drop, length-drop}
 use lib.Seq.{take-take, getD-take}
@@ -35,9 +35,13 @@ module _ (s : List ℕ) (end : ℕ) (w : end + 1 ≡ length (path (take 8 s))) (
   pub receiver-is : carriageOf (path (take 8 s)) .receiver ≡ getD s end 0
   receiver-is = ap (λ (x : ℕ). getD (path (take 8 s)) x 0) last-is ∙ server-is end (omega arith)
 
+-- the bytes from a place on, as the code takes them
+abbrev pub partFrom : List ℕ → ℕ → List ℕ
+partFrom s at = take (length s - at) (drop at s)
+
 -- the operand of the next route: the block from the byte after the command on
 abbrev pub operand : List ℕ → ℕ → List ℕ
-operand s at = take (length s - (at + 1)) (drop (at + 1) s)
+operand s at = partFrom s (at + 1)
 
 pub record Ahead (block : List ℕ) (count at k : ℕ) : Type 0 where
   pub most : k ≤ count

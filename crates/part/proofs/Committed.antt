@@ -22,6 +22,7 @@ use Rattle.steps.specs.Hearing.{heard, all, common}
 use Rattle.steps.specs.Steps.{Values, held, step1, gather, compare, step5, step6}
 use Rattle.steps.proofs.Eight.{values-at}
 use Rattle.steps.proofs.Same.{message-small}
+use Rattle.steps.proofs.Folded.{taken}
 use Rattle.part.specs.Own.{source, carriagesOf, sent, given, received, Own, own1, ownGather, ownCompare, own5, own6, commit11, commit12, commit13, commit14, committed}
 use Rattle.part.specs.Beside.{Turn, delivered, runTurn}
 use Rattle.part.proofs.Delivered.{heard-sources, delivered-heard}
@@ -98,10 +99,6 @@ common-small arrived j i (c ∷ cs) =
 -- v at most 1 and t at most 2
 abbrev pub Small : Own → Type 0
 Small o = (o .v < 2) × (o .t < 3)
-
--- a value is taken only if it is below 2
-taken : (a : Bool) (x v : ℕ) → v < 2 → cond (a && ltb x 2) x v < 2
-taken a x v h = by-cond (λ (y : ℕ). y < 2) (a && ltb x 2) x v (λ e. ltb-true x 2 (and-right a (ltb x 2) e)) (λ e. h)
 
 either-small : (b : Bool) (x y : ℕ) → x < 3 → y < 3 → cond b x y < 3
 either-small b x y p q = by-cond (λ (z : ℕ). z < 3) b x y (λ e. p) (λ e. q)

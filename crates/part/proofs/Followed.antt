@@ -14,7 +14,7 @@ use mathlib.Core.Bool.{true}
 use mathlib.Core.List.{List, [], _∷_}
 use Prim.Native.Nat.{ℕ, zero, suc, _≤_, _<_}
 use native.Mathlib.Omega.{arith}
-use lib.ListN.{length, take, replicate, length-replicate, getD-replicate}
+use lib.ListN.{length, take, replicate, length-replicate, getD-replicate, drop}
 use Rattle.network.specs.Links.{Links}
 use Rattle.network.specs.Card.{network, readCard}
 use Rattle.network.proofs.Main.{card-proper}
@@ -28,7 +28,7 @@ use Rattle.part.specs.Own.{carriagesOf, given, committed}
 use Rattle.part.specs.State.{State, first, opened}
 use Rattle.part.specs.Calls.{site, siteOf, blockOf, Asked, askCall, commitCall, stateAfter, stateAsked, valuesIn}
 use Rattle.part.specs.Beside.{Turn, turns, delivered, States, besideTurn, besideOver, startBeside, runTurn, runOver}
-use Rattle.part.specs.Theorems.{startValues, Follows, StepByStep}
+use Rattle.part.specs.Theorems.{startValues, Follows, StepByStep, StandsAt}
 use Rattle.part.proofs.Delivered.{given-long}
 use Rattle.part.proofs.Committed.{Small, committed-small, ownOf, SmallBelow, sentBy}
 use Rattle.part.proofs.Answers.{standing, blockAfter, kindAfter, site-is, starts, asks, commits}
@@ -84,17 +84,27 @@ module _ (card plan : List ℕ) (n f blocks : ℕ) (is : siteOf card plan ≡ si
           small = λ i h. subst Small (stepped i h) (committed-small n (turn .kind) (turn .block) i (arrived i) (ownOf run i) (all .small i h));
         }
 
-  follows : (j kind : ℕ) (run : Values) (states : States) → Standing j kind run states → (i : ℕ) → i < n → Follows (states i) i run
-  follows j kind run states all i h =
+  place-is : (j kind : ℕ) (later : List Turn) → Chained n f plan blocks X table j kind later → (s : State) → s .block ≡ j → s .kind ≡ kind → StandsAt n f plan s later
+  place-is j kind [] (last, end) s a b = b ∙ end
+  place-is j kind (turn ∷ later) (due, c) s a b = (b ∙ sym (due .same), ap (blockOf n f plan) a ∙ sym (due .block))
+
+  follows : (j kind : ℕ) (later : List Turn) → Chained n f plan blocks X table j kind later → (run : Values) (states : States) → Standing j kind run states
+      → (i : ℕ) → i < n → Follows n f plan (states i) i run later
+  follows j kind later c run states all i h =
       let e = all .each i h in
-      record { v = ap (λ (s : State). s .v) e; t = ap (λ (s : State). s .t) e; none = ap (λ (s : State). s .asked) e }
+      record {
+        v = ap (λ (s : State). s .v) e;
+        t = ap (λ (s : State). s .t) e;
+        none = ap (λ (s : State). s .asked) e;
+        place = place-is j kind later c (states i) (ap (λ (s : State). s .block) e) (ap (λ (s : State). s .kind) e);
+      }
 
   some-stand : (m : ℕ) (later : List Turn) (j kind : ℕ) → Chained n f plan blocks X table j kind later
       → (run : Values) (states : States) → Standing j kind run states
-      → (i : ℕ) → i < n → Follows (besideOver card plan X table (take m later) states i) i (runOver n X table (take m later) run)
+      → (i : ℕ) → i < n → Follows n f plan (besideOver card plan X table (take m later) states i) i (runOver n X table (take m later) run) (drop m later)
   unfolding besideOver runOver
-  some-stand zero later j kind c run states all i h = follows j kind run states all i h
-  some-stand (suc m) [] j kind c run states all i h = follows j kind run states all i h
+  some-stand zero later j kind c run states all i h = follows j kind later c run states all i h
+  some-stand (suc m) [] j kind c run states all i h = follows j kind [] c run states all i h
   some-stand (suc m) (turn ∷ later) j kind (due, c) run states all i h =
       some-stand m later (blockAfter j kind) (kindAfter blocks j kind) c (runTurn n X table turn run) (besideTurn card plan X table turn states)
       (turn-stands j kind turn due run states all) i h
@@ -136,7 +146,8 @@ module _ (card plan inputs : List ℕ) (X : ℕ) (table : List ℕ) (n f : ℕ) 
   begun = begin-stand card plan n f blocks is-site X table (card-proper card n f links e .most) inputs bits
 
   pub followed : (m i : ℕ) → i < n
-      → Follows (besideOver card plan X table (take m whole) (startBeside card plan inputs) i) i (runOver n X table (take m whole) (startValues inputs))
+      → Follows n f plan (besideOver card plan X table (take m whole) (startBeside card plan inputs) i) i (runOver n X table (take m whole) (startValues inputs))
+      (drop m whole)
   followed m i h = some-stand card plan n f blocks is-site X table m whole 0 0x11 chained (startValues inputs) (startBeside card plan inputs) begun i h
 
   pub end-stands : Standing card plan n f blocks is-site X table blocks 0x15 (runOver n X table whole (startValues inputs))

@@ -6,6 +6,7 @@
 -- Turns      the turns of an accepted plan stand in the order in which a server goes
 -- Followed   servers stepped side by side follow the run
 -- Shown      what the servers show at the end
+-- Beyond     arrived bytes beyond those due have no effect
 -- Short      a buffer of 56 bytes is enough for every ask
 -- Main       what a user of the definitions relies on
 pub mod Turned
@@ -16,5 +17,6 @@ pub mod Answers
 pub mod Turns
 pub mod Followed
 pub mod Shown
+pub mod Beyond
 pub mod Short
 pub mod Main

@@ -4,11 +4,13 @@
 --     decides         at the end the ask of each server gives the v that the run leaves it with, and opens nothing
 --     shows-the-run   for a sound server that is its byte in the lent buffer of the run
 --     demand          demand 3, for what the servers show
+--     beyond-due      arrived bytes beyond those due have no effect
 --     asks-short      a buffer of 56 bytes is enough for every ask
 -- Assumes nothing.
-use Rattle.part.specs.Theorems.{Turned, StepByStep, Decides, ShowsTheRun, Demand3, AsksShort}
+use Rattle.part.specs.Theorems.{Turned, StepByStep, Decides, ShowsTheRun, Demand3, BeyondDue, AsksShort}
 use Rattle.part.proofs.Turned
 use Rattle.part.proofs.Followed
+use Rattle.part.proofs.Beyond
 use Rattle.part.proofs.Short
 use Rattle.part.proofs.Shown
 
@@ -26,6 +28,9 @@ shows-the-run = Shown.shows-the-run
 
 pub demand : Demand3
 demand = Shown.demand
+
+pub beyond-due : BeyondDue
+beyond-due = Beyond.beyond-due
 
 pub asks-short : AsksShort
 asks-short = Short.asks-short

@@ -14,7 +14,7 @@ use lib.Dec.{eqb, ltb}
 use lib.ListN.{length, drop, length-map}
 use borrow.Author.Tests.{le-ltb, ltb-true}
 use Rattle.facts.proofs.Bools.{cases, by-cond, and-left, and-right}
-use Rattle.refusal.specs.Refused.{numberOf, call}
+use Rattle.refusal.specs.Refused.{numberOf}
 use Rattle.sets.specs.Sets.{size, minus, full}
 use Rattle.sets.proofs.Counts.{size-le}
 use Rattle.network.specs.Links.{Links}
@@ -22,16 +22,16 @@ use Rattle.network.specs.Card.{network, readCard}
 use Rattle.network.proofs.Main.{card-proper}
 use Rattle.plan.specs.Due.{DueBlock, due}
 use Rattle.plan.specs.Check.{totals, checkPlan}
-use Rattle.rules.specs.Blocks.{Carriage, carriageOf, reportCarriages, inwardDue, amongDue, outwardDue, routesAt, reportsAt, decodeBlock, lengthOf, decodeBlocks, decodePlan}
+use Rattle.rules.specs.Blocks.{Carriage, carriageOf, reportCarriages, inwardDue, amongDue, outwardDue, decodeBlock, lengthOf, decodeBlocks, decodePlan}
 use Rattle.rules.specs.Rules.{InBlock}
 use Rattle.rules.proofs.Groups.{routes-length}
 use Rattle.rules.proofs.Reports.{reports-length, report-carriages}
 use Rattle.rules.proofs.Order.{order-of}
 use Rattle.rules.proofs.Whole.{decode-length}
 use Rattle.rules.proofs.Main.{decodes, totalled}
-use Rattle.part.specs.Own.{carriagesOf, sent, given}
+use Rattle.part.specs.Own.{carriagesOf, sent}
 use Rattle.part.specs.State.{State, isEnd, placed, stands}
-use Rattle.part.specs.Calls.{Asked, fromBlock, blockOf, site, siteOf, valuesDue, askOn, askCall}
+use Rattle.part.specs.Calls.{Asked, fromBlock, blockOf, site, valuesDue, askOn, askCall}
 use Rattle.part.specs.Theorems.{AsksShort}
 use Rattle.part.proofs.Delivered.{given-long}
 use Rattle.part.proofs.Answers.{site-is}

@@ -3,7 +3,7 @@
 --     askCall ..      == the state with its ask open and the values that the server sends, or the one refusal: 13, 14, 16
 --     commitCall ..   == the state at the next kind, or the one refusal: 13, 16
 --     lentAfterAsk .. == the values and the later bytes as they were; refused, all as they were
-use mathlib.Core.Bool.{Bool, cond, not, _&&_}
+use mathlib.Core.Bool.{cond, not, _&&_}
 use mathlib.Core.List.{List, [], _∷_, _++_}
 use Prim.Native.Nat.{ℕ, zero, suc}
 use lib.Dec.{eqb, ltb}

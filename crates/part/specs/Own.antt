@@ -1,7 +1,7 @@
 -- One kind of a block for one server, which knows only itself: i is the server, v and t are its values, b is the block. The kinds are the commands 11, 12,
 -- 13 and 14 of the plan.
 --     carriagesOf kind b       == the carriages of a kind, in plan order
---     sent kind v t            == what the server sends as source: v in 11 and 14, t in 12 and 13
+--     sent kind v t            == what the server sends as source: t in 12 and 13, else v: in 11 and 14, and at the end as its decided bit
 --     given x i cs             == x for each carriage of cs whose source is server i
 --     received arrived j i cs  == what arrived by the carriages of cs whose receiver is server i, each as the run reads it; byte j is that of the first
 --     committed ..             == v and t after the steps that the commit of a kind takes
@@ -24,7 +24,7 @@ carriagesOf kind b =
     (cond (eqb kind 0x13) (map carriageOf (b .outward)) (reportCarriages (b .reports))))
 
 unfoldable pub sent : ℕ → ℕ → ℕ → ℕ
-sent kind v t = cond (eqb kind 0x11) v (cond (eqb kind 0x14) v t)
+sent kind v t = cond (eqb kind 0x12) t (cond (eqb kind 0x13) t v)
 
 unfoldable pub given : ℕ → ℕ → List Carriage → List ℕ
 given x i [] = []

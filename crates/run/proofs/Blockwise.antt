@@ -19,10 +19,11 @@ use Rattle.facts.specs.Lists.{Each}
 use Rattle.rules.proofs.Lists.{length-members}
 use Rattle.steps.specs.Steps.{Values, step1, gather, compare, step5, step6, runBlock, runBlocks}
 use Rattle.run.specs.Speaking.{bitsOf, worksOf}
-use Rattle.carriage.specs.Openings.{ReportOf, Readable, Runnable, OpensBy, Opens, Ready, blockAt}
+use Rattle.carriage.specs.Openings.{ReportOf, Readable, Runnable, OpensBy, Ready, blockAt}
 use Rattle.carriage.specs.declared.opening.Opening.{Opening}
 use Rattle.carriage.proofs.Placed.{fault-is, side-is, quorum-is, inward-long, among-long, outward-long, reports-are}
-use Rattle.carriage.proofs.Blocks.{partFrom, block-ready, block-is, bytes-are, bytes-fit}
+use Rattle.carriage.proofs.Routes.{partFrom}
+use Rattle.carriage.proofs.Blocks.{block-ready, block-is, bytes-are, bytes-fit}
 
 -- the six steps
 

@@ -8,7 +8,7 @@
 --     open-.., closed-..  the calls on bytes
 -- Assumes nothing.
 use mathlib.Core.Path.{_≡_, refl, sym, ap, _∙_}
-use mathlib.Core.Bool.{Bool, true, false, cond, not, _&&_}
+use mathlib.Core.Bool.{Bool, true, false, _&&_}
 use mathlib.Core.List.{List, [], _∷_, _++_}
 use Prim.Native.Nat.{ℕ, zero, suc, min, _+_, _≤_, _<_}
 use native.Mathlib.Omega.{arith}
@@ -19,7 +19,6 @@ use Rattle.facts.proofs.Bools.{cases, and-left, and-right}
 use Rattle.refusal.specs.Refused.{Refused, call, refusalOf}
 use Rattle.refusal.specs.declared.Refusal.{Refusal}
 use Rattle.refusal.specs.declared.CallGround.{CallGround}
-use Rattle.sets.specs.Sets.{meet, minus, full}
 use Rattle.network.specs.Links.{Links}
 use Rattle.network.specs.Card.{Network, network, refused, readCard}
 use Rattle.network.specs.Answers.{readingOf}
@@ -32,7 +31,7 @@ use Rattle.plan.specs.Answers.{checkedOf}
 use Rattle.plan.specs.declared.check.Checked.{Checked}
 use Rattle.rules.specs.Blocks.{Block, Carriage}
 use Rattle.carriage.specs.declared.opening.Opening.{Opening}
-use Rattle.carriage.specs.Openings.{Runnable, Opens, Ready, blockAt}
+use Rattle.carriage.specs.Openings.{Ready, blockAt}
 use Rattle.carriage.proofs.Accepting.{accepted-blocks}
 use Rattle.carriage.proofs.Placed.{fault-is, side-is, quorum-is}
 use Rattle.part.specs.Own.{source, Own, sent, given, received, carriagesOf, commit11, commit12, commit13, commit14, committed}
@@ -40,7 +39,7 @@ use Rattle.part.specs.State.{State, first, isEnd, placed, stands, opened, next}
 use Rattle.part.specs.Calls.{Site, site, closed, siteOn, siteOf, blockOf, Stepped, Asked, startOn, startCall, valuesDue, askOn, askCall, commitOn, commitCall}
 use Rattle.server.specs.Arrivals.{arrivals}
 use Rattle.server.specs.Places.{Opened}
-use Rattle.server.specs.Answers.{stateOf, ownOf, siteIs, valueOf, committedOn, none, Stepping, Starting, Asking}
+use Rattle.server.specs.Answers.{stateOf, siteIs, valueOf, committedOn, none, Stepping, Starting, Asking}
 use Rattle.server.specs.declared.state.State as CodeState
 use Rattle.server.specs.declared.turn.Outcome.{Outcome}
 use Rattle.server.specs.declared.turn.Stepped as CodeStepped
@@ -124,23 +123,18 @@ given-many x y i [] = refl
 given-many x y i (c ∷ cs) = cases (eqb (source c) i) (λ e. rw e (ap suc (given-many x y i cs))) (λ e. rw e (given-many x y i cs))
 
 module _ (s : State) where
-  pub value-end : s .kind ≡ 0x15 → s .v ≡ valueOf s
-  unfolding valueOf isEnd
-  value-end e = let a = eq-eqb _ _ e in sym (simp a)
+  pub value-among : s .kind ≡ 0x12 → s .t ≡ valueOf s
+  unfolding valueOf sent
+  value-among e = let a = eq-eqb _ _ e in sym (simp a)
 
-  module _ (o : s .kind ≡ 0x15 → ⊥) where
-    pub value-first : s .kind ≡ 0x11 → s .v ≡ valueOf s
-    unfolding valueOf isEnd sent
-    value-first e = let a = ne-eqb _ _ o in let b = eq-eqb _ _ e in sym (simp (a, b))
+  module _ (o : s .kind ≡ 0x12 → ⊥) where
+    pub value-outward : s .kind ≡ 0x13 → s .t ≡ valueOf s
+    unfolding valueOf sent
+    value-outward e = let a = ne-eqb _ _ o in let b = eq-eqb _ _ e in sym (simp (a, b))
 
-    module _ (p : s .kind ≡ 0x11 → ⊥) where
-      pub value-last : s .kind ≡ 0x14 → s .v ≡ valueOf s
-      unfolding valueOf isEnd sent
-      value-last e = let a = ne-eqb _ _ o in let b = ne-eqb _ _ p in let c = eq-eqb _ _ e in sym (simp (a, b, c))
-
-      pub value-other : (s .kind ≡ 0x14 → ⊥) → s .t ≡ valueOf s
-      unfolding valueOf isEnd sent
-      value-other e = let a = ne-eqb _ _ o in let b = ne-eqb _ _ p in let c = ne-eqb _ _ e in sym (simp (a, b, c))
+    pub value-other : (s .kind ≡ 0x13 → ⊥) → s .v ≡ valueOf s
+    unfolding valueOf sent
+    value-other e = let a = ne-eqb _ _ o in let b = ne-eqb _ _ e in sym (simp (a, b))
 
 module _ (n f : ℕ) (plan : List ℕ) (i : ℕ) (s : State) where
   pub values-end : s .kind ≡ 0x15 → 1 ≡ length (valuesDue n f plan i s)
@@ -154,11 +148,16 @@ module _ (n f : ℕ) (plan : List ℕ) (i : ℕ) (s : State) where
       let a = ne-eqb _ _ o in
       e ∙ ap (λ (x : Block). length (given 0 i (carriagesOf (s .kind) x))) is ∙ given-many 0 (sent (s .kind) (s .v) (s .t)) i (carriagesOf (s .kind) (blockOf n f plan (s .block))) ∙ sym (simp a)
 
+  -- at the end v
+  sent-end : isEnd s ≡ true → s .v ≡ sent (s .kind) (s .v) (s .t)
+  unfolding isEnd sent
+  sent-end e = let k = eqb-true (s .kind) 0x15 e in rw k refl
+
   values-alike : valuesDue n f plan i s ≡ replicate (length (valuesDue n f plan i s)) (valueOf s)
   unfolding valuesDue valueOf
   values-alike =
       cases (isEnd s)
-      (λ e. rw e refl)
+      (λ e. rw e (ap (λ (x : ℕ). x ∷ []) (sent-end e)))
       (λ e. rw e (given-one (sent (s .kind) (s .v) (s .t)) i (carriagesOf (s .kind) (blockOf n f plan (s .block)))))
 
 -- one byte more is filled

@@ -14,8 +14,9 @@ use lib.Seq.{drop-drop}
 use Rattle.sets.specs.Sets.{size, TableOf}
 use Rattle.rules.specs.Blocks.{decodeBlock, lengthOf}
 use Rattle.carriage.specs.declared.opening.Opening.{Opening}
-use Rattle.carriage.specs.Openings.{OpensBy, Readable, Runnable, Ready, blockAt}
-use Rattle.carriage.proofs.Blocks.{partFrom, block-ready, block-is, bytes-are, bytes-fit}
+use Rattle.carriage.specs.Openings.{OpensBy, Runnable, Ready, blockAt}
+use Rattle.carriage.proofs.Routes.{partFrom}
+use Rattle.carriage.proofs.Blocks.{block-ready, block-is, bytes-are, bytes-fit}
 use Rattle.part.specs.Calls.{fromBlock, blockOf}
 use Rattle.server.specs.Places.{Opened, Here}
 

@@ -15,7 +15,7 @@ use Rattle.refusal.specs.Refused.{Refused, refusalOf}
 use Rattle.sets.specs.Sets.{meet, minus, full}
 use Rattle.carriage.specs.declared.opening.Opening.{Opening}
 use Rattle.part.specs.Own.{Own, sent, own1, ownGather, ownCompare, own5, own6}
-use Rattle.part.specs.State.{State, isEnd}
+use Rattle.part.specs.State.{State}
 use Rattle.part.specs.Calls.{Site, site, closed, Stepped, at, Asked, sends, startOn, stateAfter, stateAsked, valuesIn, lentAfterAsk}
 use Rattle.part.specs.Calls as Calls
 use Rattle.server.specs.declared.state.State as CodeState
@@ -36,7 +36,7 @@ siteIs (CodeSite.Site.Open n f blocks) = site n f blocks
 siteIs (CodeSite.Site.Refused r) = closed (refusalOf r)
 
 unfoldable pub valueOf : State → ℕ
-valueOf s = cond (isEnd s) (s .v) (sent (s .kind) (s .v) (s .t))
+valueOf s = sent (s .kind) (s .v) (s .t)
 
 unfoldable pub committedOn : Opening → ℕ → ℕ → List ℕ → Own → Own
 committedOn o kind i l s =

@@ -4,7 +4,7 @@ use carriage::walk;
 ghost use mathlib.Core.Path.{_≡_};
 ghost use mathlib.Core.Bool.{cond};
 ghost use mathlib.Core.List.{[], map};
-ghost use Prim.Native.Nat.{_+_, _*_, _≤_, _<_};
+ghost use Prim.Native.Nat.{_+_, _*_, _≤_};
 ghost use lib.ListN.{length};
 ghost use Rattle.rules.specs.Blocks.{routesAt, reportsAt, carriageOf, reportCarriages};
 ghost use Rattle.facts.specs.Lists.{Each};

@@ -94,21 +94,18 @@ fn values_due(n: u8, f: u8, plan: &[u8], server: u8, state: State) -> usize
     counts::sent(opening, part, state.kind, server)
 }
 
-// What the server sends: v in 11 and 14 and at the end, else t.
+// What the server sends: t in 12 and 13; v in 11 and 14 and at the end.
 fn value(state: State) -> u8
     requires { ⌜ (state .v < 2) × (state .t < 3) ⌝ }
     ensures { λ r. ⌜ r ≡ valueOf (stateOf state) ⌝ }
 {
-    if state.kind == 0x15 {
-        return state.v as u8;
+    if state.kind == 0x12 {
+        return state.t as u8;
     }
-    if state.kind == 0x11 {
-        return state.v as u8;
+    if state.kind == 0x13 {
+        return state.t as u8;
     }
-    if state.kind == 0x14 {
-        return state.v as u8;
-    }
-    state.t as u8
+    state.v as u8
 }
 
 // The value, so many times; later bytes are left as they are. No kind of a block has more than 56

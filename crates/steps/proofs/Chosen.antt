@@ -128,7 +128,7 @@ times-repeated r k (x ∷ xs) d m =
         let a = times-other r x k (is-false (eqb x r) (λ e. d .0 r h (sym (eqb-true x r e)))) in
         omega arith
 
-each-map : {A B : Type 0} (f : A → B) (Q : B → Type 0) (xs : List A) → Each (λ x. Q (f x)) xs → Each Q (map f xs)
+pub each-map : {A B : Type 0} (f : A → B) (Q : B → Type 0) (xs : List A) → Each (λ x. Q (f x)) xs → Each Q (map f xs)
 each-map f Q [] h = λ p m. elim m [ ]
 each-map f Q (x ∷ xs) h = each-cons Q (f x) (map f xs) (h x (List·Memᴰ·head refl)) (each-map f Q xs (λ y m. h y (List·Memᴰ·tail m)))
 
@@ -238,14 +238,14 @@ chosen-mesh n links F S ps h table number i j ki kj ei ej o =
 
 -- the reports
 
-abbrev oneStep : ℕ → ℕ → Carriage
+abbrev pub oneStep : ℕ → ℕ → Carriage
 oneStep k m = record { receiver = k; before = m ∷ [] }
 
 from-each-report : (Q : Carriage → Type 0) (k : ℕ) (ms : List ℕ) → Each (λ m. Q (oneStep k m)) ms → Each Q (reportFrom k ms)
 from-each-report Q k [] h = λ c m. elim m [ ]
 from-each-report Q k (m ∷ ms) h = each-cons Q (oneStep k m) (reportFrom k ms) (h m (List·Memᴰ·head refl)) (from-each-report Q k ms (λ x l. h x (List·Memᴰ·tail l)))
 
-each-report : (Q : Carriage → Type 0) (rs : List Report) → ((r : Report) → List·Memᴰ r rs → (m : ℕ) → List·Memᴰ m (members (r .reporters)) → Q (oneStep (r .receiver) m))
+pub each-report : (Q : Carriage → Type 0) (rs : List Report) → ((r : Report) → List·Memᴰ r rs → (m : ℕ) → List·Memᴰ m (members (r .reporters)) → Q (oneStep (r .receiver) m))
     → Each Q (reportCarriages rs)
 unfolding reportCarriages
 each-report Q [] h = λ c m. elim m [ ]

@@ -23,7 +23,7 @@ use Rattle.steps.specs.Choices.{choiceOf, choicesOf}
 use Rattle.steps.proofs.Same.{block-same}
 
 -- a value is taken only if it is below 2
-taken : (d : Bool) (x y : ℕ) → y < 2 → cond (d && ltb x 2) x y < 2
+pub taken : (d : Bool) (x y : ℕ) → y < 2 → cond (d && ltb x 2) x y < 2
 taken d x y h = by-cond (λ (z : ℕ). z < 2) (d && ltb x 2) x y (λ e. ltb-true x 2 (and-right d (ltb x 2) e)) (λ e. h)
 
 adopt-bits : (D : Set) (t w : ℕ → ℕ) (i : ℕ) → w i < 2 → adopt D t w i < 2

@@ -19,7 +19,7 @@ impl Frame {
         [a, b, c, d, self.value]
     }
 
-    /// Any bytes are a frame; whether it belongs on the link is for the desk to say.
+    /// Any bytes are a frame; whether it belongs on the link is for the one who reads it there to say.
     pub fn from_bytes([a, b, c, d, value]: [u8; BYTES]) -> Frame {
         Frame {
             carriage: u32::from_le_bytes([a, b, c, d]),

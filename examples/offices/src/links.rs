@@ -147,6 +147,8 @@ impl Reader {
 mod tests {
     use super::*;
     use crate::plan::carriages;
+    use std::sync::mpsc::RecvTimeoutError;
+    use std::time::Duration;
 
     /// Office 2 hears office 0, by carriage 0 over office 1 and by carriage 1 without; office 1
     /// hears office 2 by carriage 2, and office 0 by carriage 3.
@@ -171,6 +173,11 @@ mod tests {
         Frame { carriage, value }
     }
 
+    /// What office 1 hears next; in a minute it has come, or never does.
+    fn next(heard: &Receiver<News>) -> Result<News, RecvTimeoutError> {
+        heard.recv_timeout(Duration::from_secs(60))
+    }
+
     /// Opens a link to office 1, sends these frames over it and ends it.
     fn send(from: u8, port: u16, frames: &[Frame]) {
         let out = Outgoing::open(from, &[(1, port)]).expect("the link is opened");
@@ -181,11 +188,11 @@ mod tests {
     fn frames_go_over_a_link_in_order_until_it_ends() {
         let (port, heard) = office_one();
         send(0, port, &[frame(3, 7), frame(0, 1)]);
-        assert_eq!(heard.recv(), Ok(News::Up { from: 0 }));
+        assert_eq!(next(&heard), Ok(News::Up { from: 0 }));
         for frame in [frame(3, 7), frame(0, 1)] {
-            assert_eq!(heard.recv(), Ok(News::Came { frame }));
+            assert_eq!(next(&heard), Ok(News::Came { frame }));
         }
-        assert_eq!(heard.recv(), Ok(News::Down { from: 0 }));
+        assert_eq!(next(&heard), Ok(News::Down { from: 0 }));
     }
 
     #[test]
@@ -195,12 +202,12 @@ mod tests {
         send(3, port, &[frame(0, 1)]);
         send(255, port, &[frame(0, 1)]);
         send(2, port, &[]);
-        assert_eq!(heard.recv(), Ok(News::Up { from: 2 }));
-        assert_eq!(heard.recv(), Ok(News::Down { from: 2 }));
+        assert_eq!(next(&heard), Ok(News::Up { from: 2 }));
+        assert_eq!(next(&heard), Ok(News::Down { from: 2 }));
         send(2, port, &[frame(2, 1)]);
         send(0, port, &[]);
-        assert_eq!(heard.recv(), Ok(News::Up { from: 0 }));
-        assert_eq!(heard.recv(), Ok(News::Down { from: 0 }));
+        assert_eq!(next(&heard), Ok(News::Up { from: 0 }));
+        assert_eq!(next(&heard), Ok(News::Down { from: 0 }));
     }
 
     /// It says a thing twice; it says what another office should, what does not come by here,
@@ -210,10 +217,10 @@ mod tests {
         for wrong in [0, 2, 1, 4, u32::MAX] {
             let (port, heard) = office_one();
             send(0, port, &[frame(0, 1), frame(wrong, 0), frame(3, 0)]);
-            assert_eq!(heard.recv(), Ok(News::Up { from: 0 }));
+            assert_eq!(next(&heard), Ok(News::Up { from: 0 }));
             let frame = frame(0, 1);
-            assert_eq!(heard.recv(), Ok(News::Came { frame }), "{wrong}");
-            assert_eq!(heard.recv(), Ok(News::Down { from: 0 }), "{wrong}");
+            assert_eq!(next(&heard), Ok(News::Came { frame }), "{wrong}");
+            assert_eq!(next(&heard), Ok(News::Down { from: 0 }), "{wrong}");
         }
     }
 }

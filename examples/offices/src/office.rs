@@ -42,6 +42,8 @@ fn decide(own: u8, server: Server, carriages: &[Carriage], desk: &mut Desk) -> u
                 let sent = kind
                     .clone()
                     .filter(|&number| carriages[number].is_from(own));
+                // One value for each carriage that starts here, in plan order.
+                debug_assert_eq!(sent.clone().count(), sending.values().len());
                 for (number, &value) in sent.zip(sending.values()) {
                     desk.send(number, value);
                 }

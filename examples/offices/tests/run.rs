@@ -225,9 +225,9 @@ fn silent_offices_are_missed_in_time() {
     let site = Site::example("ship");
     let folder = site.folder(&[]);
     let begun = Instant::now();
-    let printed = offices(&folder.0, &["--wait", "2000"]);
+    let printed = offices(&folder.0, &["--wait", "5000"]);
     assert_eq!(printed, (site.run(&[]), DECIDED));
-    assert!(begun.elapsed() >= Duration::from_secs(4));
+    assert!(begun.elapsed() >= Duration::from_secs(10));
 }
 
 #[test]

@@ -81,7 +81,7 @@ pub fn side_by_side(n: u8, f: u8, seeds: Range<u64>, times: usize) -> Beside {
     beside
 }
 
-/// The same for one run with this faulty set, where a plan is too long for all of them.
+/// The same for one run with this faulty set.
 pub fn side_by_side_with(faulty: u8, n: u8, f: u8, seed: u64) -> Beside {
     let mut beside = Beside::default();
     let mut rng = Rng::new(seed);

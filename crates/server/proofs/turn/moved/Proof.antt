@@ -2,7 +2,7 @@
 use mathlib.Core.Path.{_≡_}
 use Rattle.part.specs.Calls.{blockOf}
 use Rattle.carriage.specs.Openings.{Ready, blockAt}
-use Rattle.carriage.proofs.Blocks.{partFrom}
+use Rattle.carriage.proofs.Routes.{partFrom}
 use Rattle.server.proofs.Turning.{moves}
 use Rattle.server.proofs.Ways.{here-ready, here-is}
 use borrow.Author.Needs.{needs}

@@ -5,7 +5,7 @@ use Rattle.server.specs.Places.{Opened}
 use mathlib.Core.Path.{_≡_}
 use Rattle.part.specs.Calls.{blockOf}
 use Rattle.carriage.specs.Openings.{Ready, blockAt}
-use Rattle.carriage.proofs.Blocks.{partFrom}
+use Rattle.carriage.proofs.Routes.{partFrom}
 use Prim.Native.Nat.{_+_}
 use borrow.Author.Needs.{needs}
 use Rattle.server.proofs.turn.values_due.Statement.{statement}
