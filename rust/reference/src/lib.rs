@@ -9,7 +9,8 @@
 //! fixes every route that their Algorithm BC uses, block by block. The *run* plays all
 //! blocks of an accepted plan and answers with the bit each sound server decides.
 //! *A server's own part* is the same for a server that knows only itself: it asks what
-//! to send, commits what arrived, and ends with the bit that the run gives it.
+//! to send, commits what arrived, and ends with the bit that the run gives it. The
+//! *load* of an accepted plan is how many of its routes each server relays.
 //!
 //! A set of servers is one byte throughout, server `i` standing for `1 << i`.
 //!
@@ -19,6 +20,7 @@
 #![forbid(unsafe_code)]
 
 mod card;
+mod load;
 mod plan;
 mod print;
 mod quick;
@@ -33,6 +35,7 @@ mod split;
 mod sample;
 
 pub use card::{read_card, Network};
+pub use load::{load, relaying_places};
 pub use plan::{check_plan, Totals};
 pub use print::print_card;
 pub use quick::{quick_test, Quick};
