@@ -1,5 +1,4 @@
 -- Main          what a user relies on
--- Marks         marks past a row's end, or past the rows
 -- Packed        eight marks as the number of the marked servers
 -- LinkRows      the rows of links, as the code makes them and as a user reads them
 -- Reading       the card reader's loop: what is left to read gives the answer of the whole
@@ -14,7 +13,6 @@
 -- Weakness      why the split test may look at one side at a time
 -- Scans         the three nested scans
 pub mod Main
-pub mod Marks
 mod Packed
 pub mod LinkRows
 pub mod Reading

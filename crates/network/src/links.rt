@@ -8,20 +8,6 @@ ghost use Rattle.sets.specs.Sets.{encode};
 ghost use Rattle.network.specs.Links.{linkedIn};
 ghost use Rattle.network.specs.Rows.{rowsOf};
 
-// There is a link from u to v.
-pub fn linked(links: [[bool; 8]; 8], u: u8, v: u8) -> bool
-    ensures { λ r. ⌜ r ≡ linkedIn links u v ⌝ }
-{
-    if u < 8 {
-        if v < 8 {
-            let row = u as usize;
-            let mark = v as usize;
-            return links[row][mark];
-        }
-    }
-    false
-}
-
 // The servers that are marked, as a set. The marks are taken as one word, a byte each, and brought
 // side by side, by two, by four and by eight: three times as fast as a loop over the marks.
 fn marked(marks: [bool; 8]) -> u8

@@ -99,7 +99,7 @@ module _ (n : ℕ) (links : Links) (F : ℕ) (s : List ℕ) where
   group-bound g w (suc k) at carriages used p q =
       due-bound 1 s at (g .command) _ p
       (λ e f. let z = whole-command s at 9 e (ap width f ∙ w) in
-      by-cond (Bound 1 (length s)) (not (isRoute n links F (g .sources) (g .receiver) (routeAt s at))) _ _ (λ t. (omega arith, p))
+      by-cond (Bound 1 (length s)) (not (isRoute (minus (full n) F) links (g .sources) (g .receiver) (routeAt s at))) _ _ (λ t. (omega arith, p))
       (λ t. by-cond (Bound 1 (length s)) (not (eqb (meet used (minus (serversOf (path (routeAt s at))) (single (g .receiver)))) 0)) _ _ (λ u. (omega arith, p)) (λ u. group-bound g w k (at + 9) (carriages + 1) _ (omega arith) (omega arith))))
 
   pub receiver-bound : (f command sources : ℕ) → width command ≡ 9 → (r a c : ℕ) → a ≤ length s → c ≤ 1 * a → Bound 1 (length s) (fanStep n links F s f command sources r a c)

@@ -1,27 +1,29 @@
 -- The loop over the separate routes to one receiver: what is left of the group from here gives the answer of the whole.
 --     whole-..        a command that is not cut off
+--     due-..          whether a route's command is the one due, with all of its operand
 --     FromCommand, FromRoute, FromSharing   the points of the test of one route
 --     group-..        what the test of the command gives
 --     route-..        what the tests of the route give
 -- Assumes nothing.
 use mathlib.Core.Path.{_≡_, refl, sym, ap, _∙_}
-use mathlib.Core.Bool.{Bool, true, false, cond, not}
-use mathlib.Core.List.{List, []}
-use Prim.Native.Nat.{ℕ, suc, _+_, _-_, _≤_, _<_}
+use mathlib.Core.Bool.{Bool, true, false, cond, not, _&&_, and-false}
+use mathlib.Core.List.{List}
+use Prim.Native.Nat.{ℕ, suc, min, _+_, _-_, _^_, _≤_, _<_}
 use native.Mathlib.Omega.{arith}
 use lib.ListN.{length, getD, take, drop, length-drop}
 use lib.Seq.{take-all}
 use lib.Dec.{eqb, ltb}
-use borrow.Author.Tests.{eq-eqb, ne-eqb, le-leb, ltb-false}
-use Rattle.facts.proofs.Bools.{cases, clash, is-false}
-use Rattle.sets.specs.Sets.{union, meet, minus, single}
-use Rattle.sets.proofs.Members.{meet-nothing}
+use lib.Pow.{pow-mono}
+use borrow.Author.Tests.{lt-ltb, le-ltb, eq-eqb, ne-eqb, eqb-true, ltb-false}
+use Rattle.facts.proofs.Bools.{cases, clash, and-left, and-right, not-true}
+use Rattle.sets.specs.Sets.{union, meet, minus, single, full}
+use Rattle.sets.proofs.Members.{meet-nothing, minus-small, full-small}
 use Rattle.network.specs.Links.{Links}
 use Rattle.plan.specs.Due.{Group}
-use Rattle.route.specs.Route.{path, serversOf, isRoute, checkedRoute}
+use Rattle.route.specs.Route.{path, serversOf, isRoute, routeSet}
 use Rattle.route.specs.Commands.{width, isCut}
 use Rattle.plan.specs.Check.{Progress, reached, stopped, isDue, routeAt, checkGroup}
-use Rattle.route.proofs.Paths.{route-not-empty}
+use Rattle.route.proofs.Walks.{set-none, set-route, set-is}
 
 -- a command that is not cut off has its operands
 pub whole-command : (s : List ℕ) (at w : ℕ) → isCut s at ≡ false → width (getD s at 0) ≡ w → (at < length s) × (w ≤ length s - at)
@@ -50,6 +52,29 @@ whole-opening s e k = let z = whole-command s 0 4 e (ap width k) in omega arith
 pub part-rest : (s : List ℕ) (m : ℕ) → take (length s - m) (drop m s) ≡ drop m s
 part-rest s m = take-all (length s - m) (drop m s) (simp length-drop (omega arith))
 
+-- whether a route's command is the one due, with all of its operand
+module _ (s : List ℕ) (at command : ℕ) (wide : width command ≡ 9) where
+  due-width : eqb (getD s at 0) command ≡ true → width (getD s at 0) ≡ 9
+  due-width q = ap width (eqb-true _ _ q) ∙ wide
+
+  pub due-short : length s - at < 9 → false ≡ (not (isCut s at) && eqb (getD s at 0) command)
+  unfolding isCut
+  due-short h =
+      cases (eqb (getD s at 0) command)
+      (λ q. cases (ltb at (length s)) (λ i. sym (simp (i, due-width q, lt-ltb (length s - at) 9 h))) (λ i. sym (simp i)))
+      (λ q. sym (simp (q, and-false (not (isCut s at)))))
+
+  pub due-past : length s ≤ at → false ≡ (not (isCut s at) && eqb (getD s at 0) command)
+  unfolding isCut
+  due-past h = sym (simp (le-ltb at (length s) h))
+
+  pub due-whole : at < length s → 9 ≤ length s - at → eqb (getD s at 0) command ≡ (not (isCut s at) && eqb (getD s at 0) command)
+  unfolding isCut
+  due-whole i h =
+      cases (eqb (getD s at 0) command)
+      (λ q. sym (simp (lt-ltb at (length s) i, due-width q, le-ltb (length s - at) 9 h)))
+      (λ q. simp (q, and-false (not (isCut s at))))
+
 -- Three points of the test of a route that k routes follow. At each, what is left to test gives the answer `whole`.
 
 abbrev pub Point : Type 1
@@ -64,7 +89,7 @@ module _ (n : ℕ) (links : Links) (F : ℕ) (s : List ℕ) (g : Group) (k at ca
   pub record FromRoute : Type 0 where
     pub long : at + 9 ≤ length s
     pub gives : let others = minus (serversOf (path (routeAt s at))) (single (g .receiver)) in
-        cond (not (isRoute n links F (g .sources) (g .receiver) (routeAt s at))) (stopped 9 at)
+        cond (not (isRoute (minus (full n) F) links (g .sources) (g .receiver) (routeAt s at))) (stopped 9 at)
         (cond (not (eqb (meet used others) 0)) (stopped 10 at) (checkGroup n links F s g k (at + 9) (carriages + 1) (union used others)))
         ≡ whole
 
@@ -74,56 +99,51 @@ pub record FromSharing (others n : ℕ) (links : Links) (F : ℕ) (s : List ℕ)
   pub gives : cond (not (eqb (meet used others) 0)) (stopped 10 at) (checkGroup n links F s g k (at + 9) (carriages + 1) (union used others)) ≡ whole
 
 module _ {n : ℕ} {links : Links} {F : ℕ} {s : List ℕ} {g : Group} {k at carriages used : ℕ} {whole : Progress} where
-  module _ (t : FromCommand n links F s g k at carriages used whole) {b : Bool} (p : b ≡ isCut s at) where
-    pub group-cut : b ≡ true → stopped 2 at ≡ whole
+  module _ (t : FromCommand n links F s g k at carriages used whole) {b : Bool} (p : b ≡ (not (isCut s at) && eqb (getD s at 0) (g .command))) where
+    -- cut off, or another command
+    pub group-other : b ≡ false → {number place : ℕ} → (number ≡ cond (isCut s at) 2 7) × (place ≡ at) → stopped number place ≡ whole
     unfolding checkGroup isDue
-    group-cut c = sym (simp (sym p ∙ c)) ∙ t .gives
+    group-other f {number} {place} (x, y) =
+        rw (x, y)
+        (cases (isCut s at)
+        (λ c. simp c (sym (simp c) ∙ t .gives))
+        (λ c. let o : eqb (getD s at 0) (g .command) ≡ false = sym (simp c) ∙ sym p ∙ f in simp c (sym (simp (c, o)) ∙ t .gives)))
 
-    module _ (f : b ≡ false) where
-      pub group-inside : at < length s
-      group-inside = whole-command s at _ (sym p ∙ f) refl .0
+    pub group-due : b ≡ true → width (g .command) ≡ 9 → FromRoute n links F s g k at carriages used whole
+    unfolding checkGroup isDue
+    group-due e w =
+        let both = sym p ∙ e in
+        let c = not-true (isCut s at) (and-left _ _ both) in
+        let q = and-right (not (isCut s at)) _ both in
+        let z = whole-command s at 9 c (ap width (eqb-true _ _ q) ∙ w) in
+        record { long = omega arith; gives = sym (simp (c, q)) ∙ t .gives }
 
-      pub group-other : (getD s at 0 ≡ g .command → ⊥) → stopped 7 at ≡ whole
-      unfolding checkGroup isDue
-      group-other o = sym (simp (sym p ∙ f, ne-eqb _ _ o)) ∙ t .gives
-
-      pub group-due : getD s at 0 ≡ g .command → width (g .command) ≡ 9 → FromRoute n links F s g k at carriages used whole
-      unfolding checkGroup isDue
-      group-due e w = let z = whole-command s at 9 (sym p ∙ f) (ap width e ∙ w) in record { long = omega arith; gives = sym (simp (sym p ∙ f, eq-eqb _ _ e)) ∙ t .gives }
-
-  module _ (t : FromRoute n links F s g k at carriages used whole) {r : List ℕ} (q : r ≡ checkedRoute n links F (g .sources) (g .receiver) (take (length s - (at + 1)) (drop (at + 1) s))) where
+  module _ (t : FromRoute n links F s g k at carriages used whole) (few : n ≤ 8) {servers W set : ℕ} (a : servers ≡ full (min n 8)) (b : W ≡ minus servers F)
+      (q : set ≡ routeSet W links (g .sources) (g .receiver) (take (length s - (at + 1)) (drop (at + 1) s))) where
     wide : 8 ≤ length (drop (at + 1) s)
     wide = let h = t .long in simp length-drop (omega arith)
 
-    checked : r ≡ checkedRoute n links F (g .sources) (g .receiver) (drop (at + 1) s)
-    checked = q ∙ ap (checkedRoute n links F (g .sources) (g .receiver)) (part-rest s (at + 1))
+    sound-is : W ≡ minus (full n) F
+    sound-is = let e : min n 8 ≡ n = omega arith in b ∙ ap (λ (x : ℕ). minus x F) (a ∙ ap full e)
 
-    pub route-wrong : length r ≡ 0 → stopped 9 at ≡ whole
+    sound-small : minus (full n) F < 256
+    sound-small = minus-small 8 (full n) F (let p : 2 ^ n ≤ 2 ^ 8 = pow-mono few in let l = full-small n in omega arith)
+
+    checked : set ≡ routeSet (minus (full n) F) links (g .sources) (g .receiver) (drop (at + 1) s)
+    checked = q ∙ rw sound-is (ap (routeSet (minus (full n) F) links (g .sources) (g .receiver)) (part-rest s (at + 1)))
+
+    pub route-wrong : set ≡ 0 → stopped 9 at ≡ whole
     unfolding routeAt
-    route-wrong z =
-        let x : isRoute n links F (g .sources) (g .receiver) (take 8 (drop (at + 1) s)) ≡ false =
-        is-false (isRoute n links F (g .sources) (g .receiver) (take 8 (drop (at + 1) s)))
-        (λ y. let m = route-not-empty n links F (g .sources) (g .receiver) (drop (at + 1) s) wide y in let v = ap length checked in omega arith) in
-        sym (simp x) ∙ t .gives
+    route-wrong z = let x = set-none (minus (full n) F) links (g .sources) (g .receiver) sound-small (drop (at + 1) s) wide checked z in sym (simp x) ∙ t .gives
 
-    module _ (some : length r ≡ 0 → ⊥) where
-      sound : isRoute n links F (g .sources) (g .receiver) (take 8 (drop (at + 1) s)) ≡ true
-      unfolding checkedRoute
-      sound =
-          cases (isRoute n links F (g .sources) (g .receiver) (take 8 (drop (at + 1) s)))
-          (λ y. y)
-          (λ y. let x : checkedRoute n links F (g .sources) (g .receiver) (drop (at + 1) s) ≡ [] = simp (le-leb 8 (length (drop (at + 1) s)) wide, y) in absurd (some (ap length (checked ∙ x))))
-
-      path-is : r ≡ path (take 8 (drop (at + 1) s))
-      unfolding checkedRoute
-      path-is = checked ∙ simp (le-leb 8 (length (drop (at + 1) s)) wide, sound)
-
-      pub route-sound : {set one others : ℕ} → set ≡ serversOf r → one ≡ single (g .receiver) → others ≡ minus set one → FromSharing others n links F s g k at carriages used whole
+    module _ (some : set ≡ 0 → ⊥) where
+      pub route-sound : {one others : ℕ} → one ≡ single (g .receiver) → others ≡ minus set one → FromSharing others n links F s g k at carriages used whole
       unfolding routeAt
-      route-sound {set} {one} {others} a b c =
-          let x = path-is in
+      route-sound {one} {others} c d =
+          let x = set-is (minus (full n) F) links (g .sources) (g .receiver) sound-small (drop (at + 1) s) wide checked some in
+          let r = set-route (minus (full n) F) links (g .sources) (g .receiver) sound-small (drop (at + 1) s) wide checked some in
           let y : others ≡ minus (serversOf (path (take 8 (drop (at + 1) s)))) (single (g .receiver)) = cc in
-          record { long = t .long; gives = rw y (sym (simp sound) ∙ t .gives) }
+          record { long = t .long; gives = rw y (sym (simp r) ∙ t .gives) }
 
   module _ {others : ℕ} (t : FromSharing others n links F s g k at carriages used whole) {shared : ℕ} (i : shared ≡ meet used others) where
     pub route-shares : (shared ≡ 0 → ⊥) → stopped 10 at ≡ whole
@@ -137,6 +157,7 @@ unfolding checkGroup
 group-done n links F s g k at carriages used z = sym (rw z refl)
 
 -- a route that stands alone shares nothing
-pub route-alone : {n : ℕ} {links : Links} {F : ℕ} {s : List ℕ} {g : Group} {at carriages : ℕ} {whole : Progress} → FromRoute n links F s g 0 at carriages 0 whole
-    → {r : List ℕ} → r ≡ checkedRoute n links F (g .sources) (g .receiver) (take (length s - (at + 1)) (drop (at + 1) s)) → (length r ≡ 0 → ⊥) → reached (at + 9) (carriages + 1) ≡ whole
-route-alone t q some = group-done _ _ _ _ _ 0 _ _ _ refl ∙ route-apart (route-sound t q some refl refl refl) refl (meet-nothing _) refl
+pub route-alone : {n : ℕ} {links : Links} {F : ℕ} {s : List ℕ} {g : Group} {at carriages : ℕ} {whole : Progress} → FromRoute n links F s g 0 at carriages 0 whole → n ≤ 8
+    → {servers W set : ℕ} → servers ≡ full (min n 8) → W ≡ minus servers F → set ≡ routeSet W links (g .sources) (g .receiver) (take (length s - (at + 1)) (drop (at + 1) s))
+    → (set ≡ 0 → ⊥) → reached (at + 9) (carriages + 1) ≡ whole
+route-alone t few a b q some = group-done _ _ _ _ _ 0 _ _ _ refl ∙ route-apart (route-sound t few a b q some refl refl) refl (meet-nothing _) refl

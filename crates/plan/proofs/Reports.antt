@@ -1,4 +1,5 @@
 -- The reports of a block: the tests of one report, and the loop over the servers of F.
+--     row-links               a link by the row
 --     linked-..               the loop over the reporters that tests their links to k
 --     report-outside, report-few, report-linked   what the tests say of the reporters
 --     Reporting, reports-..   the loop over F: what is left of it gives the answer of the whole
@@ -14,12 +15,18 @@ use lib.Dec.{eqb}
 use borrow.Author.Tests.{eq-eqb, ne-eqb}
 use Rattle.sets.specs.Sets.{has, minus, within, full, size}
 use Rattle.network.specs.Links.{Links, linkedIn}
+use Rattle.network.specs.Rows.{linksOf}
+use Rattle.network.proofs.LinkRows.{linked-row}
 use Rattle.plan.specs.Members.{listFrom, members}
 use Rattle.route.specs.Commands.{width, isCut}
 use Rattle.plan.specs.Check.{reached, stopped, isDue, allLinked, isReport, checkReports}
 use Rattle.plan.proofs.Groups.{whole-command}
 use Rattle.plan.proofs.Walks.{walk, list-next, list-skip, list-done, reportStep, reports-walk}
 use Rattle.plan.specs.Check.{andThen}
+
+-- there is a link from m to k exactly if row m has k
+pub row-links : (rows : List ℕ) (m k : ℕ) → m < 8 → k < 8 → {b : Bool} → b ≡ has (getD rows m 0) k → b ≡ linkedIn (linksOf rows) m k
+row-links rows m k h l e = e ∙ sym (linked-row rows m k h l)
 
 module _ (links : Links) (k set : ℕ) where
   pub linked-starts : allLinked links k (listFrom (8 - 0) 0 (has set)) ≡ allLinked links k (members set)

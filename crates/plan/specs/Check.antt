@@ -34,7 +34,7 @@ checkGroup n links F s g (suc k) at carriages used =
     let servers = minus (serversOf (path (routeAt s at))) (single (g .receiver)) in
     let on = checkGroup n links F s g k (at + 9) (carriages + 1) (union used servers) in
     isDue s at (g .command)
-    (cond (not (isRoute n links F (g .sources) (g .receiver) (routeAt s at))) (stopped 9 at)
+    (cond (not (isRoute (minus (full n) F) links (g .sources) (g .receiver) (routeAt s at))) (stopped 9 at)
     (cond (not (eqb (meet used servers) 0)) (stopped 10 at) on))
 
 -- on from a place that is reached

@@ -6,16 +6,17 @@ use refusal::PlanGround;
 use refusal::Refusal;
 use route::command;
 ghost use mathlib.Core.Path.{_≡_};
-ghost use mathlib.Core.Bool.{_||_};
+ghost use mathlib.Core.Bool.{cond, not, _&&_, _||_};
 ghost use Prim.Native.Nat.{_+_, _*_, _^_, _≤_, _<_};
 ghost use lib.Dec.{eqb};
-ghost use lib.ListN.{length};
+ghost use lib.ListN.{length, getD};
 ghost use Rattle.refusal.specs.Refused.{planRefusal, numberOf, placeOf};
 ghost use Rattle.sets.specs.Sets.{minus, full, lowest};
 ghost use Rattle.network.specs.Card.{network};
+ghost use Rattle.network.specs.Rows.{linksOf};
 ghost use Rattle.plan.specs.Members.{listFrom, members};
 ghost use Rattle.plan.specs.Due.{isPart, blocksOf, due, fan, toOne, pairs, routesDue};
-ghost use Rattle.route.specs.Commands.{width};
+ghost use Rattle.route.specs.Commands.{width, isCut};
 ghost use Rattle.plan.specs.Check.{andThen, checkGroup, checkGroups, allLinked, isReport, checkReports, checkBlock, checkBlocks, checkEnd, checkOn, checkPlan};
 ghost use Rattle.plan.specs.Answers.{progressOf, groupOf, dueOf, checkedOf};
 
@@ -26,11 +27,36 @@ pub enum Progress {
     Stopped(PlanGround),
 }
 
+// At this place there is a route's command, the one due, with all of its operand. Commands of routes
+// are of one width, so that the one due tells where the operand ends.
+fn is_route_due(plan: &[u8], at: usize, command: u8) -> bool
+    requires { ⌜ width command ≡ 9 ⌝ }
+    ensures { λ r. ⌜ r ≡ (not (isCut (now (plan .entry)) at) && eqb (getD (now (plan .entry)) at 0) command) ⌝ }
+{
+    if at < plan.len() {
+        if plan.len() - at < 9 {
+            return false;
+        }
+        return plan[at] == command;
+    }
+    false
+}
+
+// The ground where the command due is not there.
+fn not_due(plan: &[u8], at: usize) -> PlanGround
+    ensures { λ r. ⌜ (numberOf (planRefusal r) ≡ cond (isCut (now (plan .entry)) at) 2 7) × (placeOf (planRefusal r) ≡ at) ⌝ }
+{
+    if command::is_cut(plan, at) {
+        return PlanGround::Cut(at);
+    }
+    PlanGround::NotDue(at)
+}
+
 // The next `count` routes: each is due, keeps the rules on its own, comes from one of the sources
 // to the receiver, and shares nothing but the receiver with those before it.
 fn check_group(
     n: u8,
-    links: [[bool; 8]; 8],
+    rows: &[u8; 8],
     fault: u8,
     plan: &[u8],
     start: usize,
@@ -40,27 +66,23 @@ fn check_group(
     receiver: u8,
     count: usize,
 ) -> Progress
-    requires { ⌜ (width command ≡ 9) × (before ≤ start) ⌝ }
-    ensures { λ r. ⌜ progressOf r ≡ checkGroup n links fault (now (plan .entry)) (groupOf command sources receiver count) count start before 0 ⌝ }
+    requires { ⌜ (width command ≡ 9) × (before ≤ start) × (n ≤ 8) ⌝ }
+    ensures { λ r. ⌜ progressOf r ≡ checkGroup n (linksOf (now (rows .entry))) fault (now (plan .entry)) (groupOf command sources receiver count) count start before 0 ⌝ }
 {
+    let sound = sets::minus(sets::full(n), fault);
     let mut at = start;
     let mut carriages = before;
     let mut used: u8 = 0;
     for k in 0..count {
-        if command::is_cut(plan, at) {
-            return Progress::Stopped(PlanGround::Cut(at));
-        }
-        if plan[at] != command {
-            return Progress::Stopped(PlanGround::NotDue(at));
+        if is_route_due(plan, at, command) {} else {
+            return Progress::Stopped(not_due(plan, at));
         }
         let first = at + 1;
-        let operand = &plan[first..];
-        let servers = route::check_route(n, links, fault, sources, receiver, operand);
-        if servers.len() == 0 {
+        let servers = route::check_route(sound, rows, sources, receiver, &plan[first..]);
+        if servers == 0 {
             return Progress::Stopped(PlanGround::Route(at));
         }
-        let path = route::set_of(servers);
-        let others = sets::minus(path, sets::single(receiver));
+        let others = sets::minus(servers, sets::single(receiver));
         let shared = sets::meet(used, others);
         if shared != 0 {
             return Progress::Stopped(PlanGround::Shared(at));
@@ -75,7 +97,7 @@ fn check_group(
 // One route by itself: there is none that it could share a server with.
 fn check_one(
     n: u8,
-    links: [[bool; 8]; 8],
+    rows: &[u8; 8],
     fault: u8,
     plan: &[u8],
     at: usize,
@@ -83,19 +105,16 @@ fn check_one(
     sources: u8,
     receiver: u8,
 ) -> Progress
-    requires { ⌜ before ≤ at ⌝ }
-    ensures { λ r. ⌜ progressOf r ≡ checkGroup n links fault (now (plan .entry)) (groupOf 18 sources receiver 1) 1 at before 0 ⌝ }
+    requires { ⌜ (before ≤ at) × (n ≤ 8) ⌝ }
+    ensures { λ r. ⌜ progressOf r ≡ checkGroup n (linksOf (now (rows .entry))) fault (now (plan .entry)) (groupOf 18 sources receiver 1) 1 at before 0 ⌝ }
 {
-    if command::is_cut(plan, at) {
-        return Progress::Stopped(PlanGround::Cut(at));
+    if is_route_due(plan, at, 18) {} else {
+        return Progress::Stopped(not_due(plan, at));
     }
-    if plan[at] != 18 {
-        return Progress::Stopped(PlanGround::NotDue(at));
-    }
+    let sound = sets::minus(sets::full(n), fault);
     let first = at + 1;
-    let operand = &plan[first..];
-    let servers = route::check_route(n, links, fault, sources, receiver, operand);
-    if servers.len() == 0 {
+    let servers = route::check_route(sound, rows, sources, receiver, &plan[first..]);
+    if servers == 0 {
         return Progress::Stopped(PlanGround::Route(at));
     }
     let next = at + 9;
@@ -109,7 +128,7 @@ fn check_one(
 // f+1 routes to each receiver of the set, receivers ascending, from the sources.
 fn check_fan(
     n: u8,
-    links: [[bool; 8]; 8],
+    rows: &[u8; 8],
     fault: u8,
     plan: &[u8],
     start: usize,
@@ -119,8 +138,8 @@ fn check_fan(
     receivers: u8,
     f: u8,
 ) -> Progress
-    requires { ⌜ (width command ≡ 9) × (before ≤ start) × (start ≤ length (now plan)) ⌝ }
-    ensures { λ r. ⌜ progressOf r ≡ checkGroups n links fault (now (plan .entry)) (fan f command sources (members receivers)) start before ⌝ }
+    requires { ⌜ (width command ≡ 9) × (before ≤ start) × (start ≤ length (now plan)) × (n ≤ 8) ⌝ }
+    ensures { λ r. ⌜ progressOf r ≡ checkGroups n (linksOf (now (rows .entry))) fault (now (plan .entry)) (fan f command sources (members receivers)) start before ⌝ }
 {
     let count = (f as usize) + 1;
     let mut at = start;
@@ -131,7 +150,7 @@ fn check_fan(
         let others = sets::minus(left, sets::single(receiver));
         let group = check_group(
             n,
-            links,
+            rows,
             fault,
             plan,
             at,
@@ -161,7 +180,7 @@ fn check_fan(
 // One route to the receiver from each other server of the quorum, sources ascending.
 fn check_to_one(
     n: u8,
-    links: [[bool; 8]; 8],
+    rows: &[u8; 8],
     fault: u8,
     plan: &[u8],
     start: usize,
@@ -169,8 +188,8 @@ fn check_to_one(
     quorum: u8,
     receiver: u8,
 ) -> Progress
-    requires { ⌜ (before ≤ start) × (start ≤ length (now plan)) × (receiver < 8) ⌝ }
-    ensures { λ r. ⌜ progressOf r ≡ checkGroups n links fault (now (plan .entry)) (toOne receiver (members quorum)) start before ⌝ }
+    requires { ⌜ (before ≤ start) × (start ≤ length (now plan)) × (receiver < 8) × (n ≤ 8) ⌝ }
+    ensures { λ r. ⌜ progressOf r ≡ checkGroups n (linksOf (now (rows .entry))) fault (now (plan .entry)) (toOne receiver (members quorum)) start before ⌝ }
 {
     let mut at = start;
     let mut carriages = before;
@@ -179,7 +198,7 @@ fn check_to_one(
         let source = sets::lowest(left);
         let only = sets::single(source);
         let others = sets::minus(left, only);
-        let route = check_one(n, links, fault, plan, at, carriages, only, receiver);
+        let route = check_one(n, rows, fault, plan, at, carriages, only, receiver);
         match route {
             Progress::Stopped(ground) => {
                 return Progress::Stopped(ground);
@@ -200,15 +219,15 @@ fn check_to_one(
 // One route for each receiver of the quorum and each other server of it as the source.
 fn check_pairs(
     n: u8,
-    links: [[bool; 8]; 8],
+    rows: &[u8; 8],
     fault: u8,
     plan: &[u8],
     start: usize,
     before: usize,
     quorum: u8,
 ) -> Progress
-    requires { ⌜ (before ≤ start) × (start ≤ length (now plan)) ⌝ }
-    ensures { λ r. ⌜ progressOf r ≡ checkGroups n links fault (now (plan .entry)) (pairs (members quorum) (members quorum)) start before ⌝ }
+    requires { ⌜ (before ≤ start) × (start ≤ length (now plan)) × (n ≤ 8) ⌝ }
+    ensures { λ r. ⌜ progressOf r ≡ checkGroups n (linksOf (now (rows .entry))) fault (now (plan .entry)) (pairs (members quorum) (members quorum)) start before ⌝ }
 {
     let mut at = start;
     let mut carriages = before;
@@ -216,7 +235,7 @@ fn check_pairs(
     while left != 0 {
         let receiver = sets::lowest(left);
         let others = sets::minus(left, sets::single(receiver));
-        let row = check_to_one(n, links, fault, plan, at, carriages, quorum, receiver);
+        let row = check_to_one(n, rows, fault, plan, at, carriages, quorum, receiver);
         match row {
             Progress::Stopped(ground) => {
                 return Progress::Stopped(ground);
@@ -235,12 +254,13 @@ fn check_pairs(
 }
 
 // Every server of the set has a link to k.
-fn all_linked(links: [[bool; 8]; 8], k: u8, set: u8) -> bool
-    ensures { λ r. ⌜ r ≡ allLinked links k (members set) ⌝ }
+fn all_linked(rows: &[u8; 8], k: u8, set: u8) -> bool
+    requires { ⌜ k < 8 ⌝ }
+    ensures { λ r. ⌜ r ≡ allLinked (linksOf (now (rows .entry))) k (members set) ⌝ }
 {
     for m in 0..8u8 {
         if sets::member(set, m) {
-            if links::linked(links, m, k) {} else {
+            if sets::member(rows[m as usize], k) {} else {
                 return false;
             }
         }
@@ -249,15 +269,15 @@ fn all_linked(links: [[bool; 8]; 8], k: u8, set: u8) -> bool
 }
 
 // The reporters are exactly f+1 servers of V−F, each with a link to k.
-fn is_report(n: u8, f: u8, links: [[bool; 8]; 8], fault: u8, k: u8, reporters: u8) -> bool
-    requires { ⌜ n ≤ 8 ⌝ }
-    ensures { λ r. ⌜ r ≡ isReport n f links fault k reporters ⌝ }
+fn is_report(n: u8, f: u8, rows: &[u8; 8], fault: u8, k: u8, reporters: u8) -> bool
+    requires { ⌜ (n ≤ 8) × (k < 8) ⌝ }
+    ensures { λ r. ⌜ r ≡ isReport n f (linksOf (now (rows .entry))) fault k reporters ⌝ }
 {
     let sound = sets::minus(sets::full(n), fault);
     if sets::within(reporters, sound) {
         let size = sets::size(reporters) as usize;
         if size == (f as usize) + 1 {
-            return all_linked(links, k, reporters);
+            return all_linked(rows, k, reporters);
         }
         return false;
     }
@@ -268,14 +288,14 @@ fn is_report(n: u8, f: u8, links: [[bool; 8]; 8], fault: u8, k: u8, reporters: u
 fn check_reports(
     n: u8,
     f: u8,
-    links: [[bool; 8]; 8],
+    rows: &[u8; 8],
     fault: u8,
     plan: &[u8],
     start: usize,
     before: usize,
 ) -> Progress
     requires { ⌜ (n ≤ 8) × (before ≤ start) × (start ≤ length (now plan)) ⌝ }
-    ensures { λ r. ⌜ progressOf r ≡ checkReports n f links fault (now (plan .entry)) (members fault) start before ⌝ }
+    ensures { λ r. ⌜ progressOf r ≡ checkReports n f (linksOf (now (rows .entry))) fault (now (plan .entry)) (members fault) start before ⌝ }
 {
     let count = (f as usize) + 1;
     let mut at = start;
@@ -291,7 +311,7 @@ fn check_reports(
             if plan[at + 1] != k {
                 return Progress::Stopped(PlanGround::Reporters(at));
             }
-            if is_report(n, f, links, fault, k, plan[at + 2]) {
+            if is_report(n, f, rows, fault, k, plan[at + 2]) {
                 at = at + 3;
                 carriages = carriages + count;
             } else {
@@ -306,7 +326,7 @@ fn check_reports(
 fn check_outward(
     n: u8,
     f: u8,
-    links: [[bool; 8]; 8],
+    rows: &[u8; 8],
     fault: u8,
     quorum: u8,
     block: &[u8],
@@ -314,17 +334,17 @@ fn check_outward(
     before: usize,
 ) -> Progress
     requires { ⌜ (n ≤ 8) × (before ≤ start) × (start ≤ length (now block)) ⌝ }
-    ensures { λ r. ⌜ progressOf r ≡ andThen (checkGroups n links fault (now (block .entry)) (fan f 19 quorum (members (minus (minus (full n) fault) quorum))) start before) (λ at carriages. checkReports n f links fault (now (block .entry)) (members fault) at carriages) ⌝ }
+    ensures { λ r. ⌜ progressOf r ≡ andThen (checkGroups n (linksOf (now (rows .entry))) fault (now (block .entry)) (fan f 19 quorum (members (minus (minus (full n) fault) quorum))) start before) (λ at carriages. checkReports n f (linksOf (now (rows .entry))) fault (now (block .entry)) (members fault) at carriages) ⌝ }
 {
     let sound = sets::minus(sets::full(n), fault);
     let others = sets::minus(sound, quorum);
-    let outward = check_fan(n, links, fault, block, start, before, 19, quorum, others, f);
+    let outward = check_fan(n, rows, fault, block, start, before, 19, quorum, others, f);
     match outward {
         Progress::Stopped(ground) => Progress::Stopped(ground),
         Progress::Reached { at, carriages } => check_reports(
             n,
             f,
-            links,
+            rows,
             fault,
             block,
             at,
@@ -337,7 +357,7 @@ fn check_outward(
 fn check_among(
     n: u8,
     f: u8,
-    links: [[bool; 8]; 8],
+    rows: &[u8; 8],
     fault: u8,
     quorum: u8,
     block: &[u8],
@@ -345,15 +365,15 @@ fn check_among(
     before: usize,
 ) -> Progress
     requires { ⌜ (n ≤ 8) × (before ≤ start) × (start ≤ length (now block)) ⌝ }
-    ensures { λ r. ⌜ progressOf r ≡ andThen (checkGroups n links fault (now (block .entry)) (pairs (members quorum) (members quorum)) start before) (λ a c. andThen (checkGroups n links fault (now (block .entry)) (fan f 19 quorum (members (minus (minus (full n) fault) quorum))) a c) (λ at carriages. checkReports n f links fault (now (block .entry)) (members fault) at carriages)) ⌝ }
+    ensures { λ r. ⌜ progressOf r ≡ andThen (checkGroups n (linksOf (now (rows .entry))) fault (now (block .entry)) (pairs (members quorum) (members quorum)) start before) (λ a c. andThen (checkGroups n (linksOf (now (rows .entry))) fault (now (block .entry)) (fan f 19 quorum (members (minus (minus (full n) fault) quorum))) a c) (λ at carriages. checkReports n f (linksOf (now (rows .entry))) fault (now (block .entry)) (members fault) at carriages)) ⌝ }
 {
-    let among = check_pairs(n, links, fault, block, start, before, quorum);
+    let among = check_pairs(n, rows, fault, block, start, before, quorum);
     match among {
         Progress::Stopped(ground) => Progress::Stopped(ground),
         Progress::Reached { at, carriages } => check_outward(
             n,
             f,
-            links,
+            rows,
             fault,
             quorum,
             block,
@@ -367,23 +387,23 @@ fn check_among(
 fn check_rest(
     n: u8,
     f: u8,
-    links: [[bool; 8]; 8],
+    rows: &[u8; 8],
     fault: u8,
     side: u8,
     quorum: u8,
     block: &[u8],
 ) -> Progress
     requires { ⌜ (n ≤ 8) × (4 ≤ length (now block)) ⌝ }
-    ensures { λ r. ⌜ progressOf r ≡ andThen (checkGroups n links fault (now (block .entry)) (routesDue n f fault side quorum) 4 0) (λ at carriages. checkReports n f links fault (now (block .entry)) (members fault) at carriages) ⌝ }
+    ensures { λ r. ⌜ progressOf r ≡ andThen (checkGroups n (linksOf (now (rows .entry))) fault (now (block .entry)) (routesDue n f fault side quorum) 4 0) (λ at carriages. checkReports n f (linksOf (now (rows .entry))) fault (now (block .entry)) (members fault) at carriages) ⌝ }
 {
     let receivers = sets::minus(quorum, side);
-    let inward = check_fan(n, links, fault, block, 4, 0, 17, side, receivers, f);
+    let inward = check_fan(n, rows, fault, block, 4, 0, 17, side, receivers, f);
     match inward {
         Progress::Stopped(ground) => Progress::Stopped(ground),
         Progress::Reached { at, carriages } => check_among(
             n,
             f,
-            links,
+            rows,
             fault,
             quorum,
             block,
@@ -405,9 +425,9 @@ fn is_side(sound: u8, part: u8, side: u8) -> bool
 
 // The block that starts here, with the F and the cut that are due; the places are counted from its
 // 10 command.
-fn check_block(n: u8, f: u8, links: [[bool; 8]; 8], fault: u8, part: u8, block: &[u8]) -> Progress
+fn check_block(n: u8, f: u8, rows: &[u8; 8], fault: u8, part: u8, block: &[u8]) -> Progress
     requires { ⌜ n ≤ 8 ⌝ }
-    ensures { λ r. ⌜ progressOf r ≡ checkBlock n f links (now (block .entry)) (dueOf fault part) ⌝ }
+    ensures { λ r. ⌜ progressOf r ≡ checkBlock n f (linksOf (now (rows .entry))) (now (block .entry)) (dueOf fault part) ⌝ }
 {
     if command::is_cut(block, 0) {
         return Progress::Stopped(PlanGround::Cut(0));
@@ -426,7 +446,7 @@ fn check_block(n: u8, f: u8, links: [[bool; 8]; 8], fault: u8, part: u8, block: 
             return Progress::Stopped(PlanGround::Quorum(0));
         }
         if sets::within(quorum, sound) {
-            return check_rest(n, f, links, fault, side, quorum, block);
+            return check_rest(n, f, rows, fault, side, quorum, block);
         }
         return Progress::Stopped(PlanGround::Quorum(0));
     }
@@ -468,14 +488,14 @@ fn is_part(sound: u8, low: u8, part: u8) -> bool
 fn check_cuts(
     n: u8,
     f: u8,
-    links: [[bool; 8]; 8],
+    rows: &[u8; 8],
     plan: &[u8],
     start: usize,
     before: usize,
     fault: u8,
 ) -> Progress
     requires { ⌜ (n ≤ 8) × (start ≤ length (now plan)) × (before ≤ 256 * start) × (length (now plan) ≤ 1048576) ⌝ }
-    ensures { λ r. ⌜ progressOf r ≡ checkBlocks n f links (now (plan .entry)) (blocksOf fault (listFrom (2 ^ n) 0 (isPart (minus (full n) fault)))) start before ⌝ }
+    ensures { λ r. ⌜ progressOf r ≡ checkBlocks n f (linksOf (now (rows .entry))) (now (plan .entry)) (blocksOf fault (listFrom (2 ^ n) 0 (isPart (minus (full n) fault)))) start before ⌝ }
 {
     let servers = sets::full(n);
     let sound = sets::minus(servers, fault);
@@ -486,7 +506,7 @@ fn check_cuts(
     for p in 0..limit {
         let part = p as u8;
         if is_part(sound, low, part) {
-            let block = check_block(n, f, links, fault, part, &plan[at..]);
+            let block = check_block(n, f, rows, fault, part, &plan[at..]);
             match block {
                 Progress::Stopped(ground) => {
                     return Progress::Stopped(later(ground, at));
@@ -505,9 +525,9 @@ fn check_cuts(
 }
 
 // The blocks of each F of at most f servers, ascending.
-fn check_blocks(n: u8, f: u8, links: [[bool; 8]; 8], plan: &[u8]) -> Progress
+fn check_blocks(n: u8, f: u8, rows: &[u8; 8], plan: &[u8]) -> Progress
     requires { ⌜ (n ≤ 8) × (length (now plan) ≤ 1048576) ⌝ }
-    ensures { λ r. ⌜ progressOf r ≡ checkBlocks n f links (now (plan .entry)) (due n f) 0 0 ⌝ }
+    ensures { λ r. ⌜ progressOf r ≡ checkBlocks n f (linksOf (now (rows .entry))) (now (plan .entry)) (due n f) 0 0 ⌝ }
 {
     let sizes = sets::sizes();
     let limit = (sets::full(n) as u16) + 1;
@@ -516,7 +536,7 @@ fn check_blocks(n: u8, f: u8, links: [[bool; 8]; 8], plan: &[u8]) -> Progress
     for i in 0..limit {
         let fault = i as u8;
         if sizes[fault as usize] <= f {
-            let cuts = check_cuts(n, f, links, plan, at, carriages, fault);
+            let cuts = check_cuts(n, f, rows, plan, at, carriages, fault);
             match cuts {
                 Progress::Stopped(ground) => {
                     return Progress::Stopped(ground);
@@ -601,7 +621,8 @@ fn check_on(n: u8, f: u8, links: [[bool; 8]; 8], plan: &[u8]) -> Checked
     if 1048576 < plan.len() {
         return Checked::Refused(Refusal::Plan(PlanGround::TooLong));
     }
-    let blocks = check_blocks(n, f, links, plan);
+    let rows = links::rows(links);
+    let blocks = check_blocks(n, f, &rows, plan);
     match blocks {
         Progress::Stopped(ground) => Checked::Refused(Refusal::Plan(ground)),
         Progress::Reached { at, carriages } => {

@@ -3,10 +3,75 @@
 pub mod command;
 
 ghost use mathlib.Core.Path.{_≡_};
-ghost use Prim.Native.Nat.{_≤_, _<_};
-ghost use lib.ListN.{length, take, drop, getD};
-ghost use Rattle.sets.specs.Sets.{union, single};
-ghost use Rattle.route.specs.Route.{path, isFill, serversOf, goesOn, checkedRoute};
+ghost use mathlib.Core.Bool.{cond};
+ghost use Prim.Native.Nat.{_+_, _*_, _≤_};
+ghost use lib.Dec.{eqb};
+ghost use lib.ListN.{length, take};
+ghost use Rattle.sets.specs.Sets.{minus};
+ghost use Rattle.network.specs.Rows.{linksOf};
+ghost use Rattle.route.specs.Route.{path, checkedRoute, routeSet};
+ghost use Rattle.route.specs.Fills.{lackOf};
+
+// Four bytes as one number, the first as the lowest digit.
+fn four(a: u8, b: u8, c: u8, d: u8) -> u32
+    ensures { λ r. ⌜ r ≡ a + 256 * (b + 256 * (c + 256 * d)) ⌝ }
+{
+    (a as u32) + 256 * (b as u32) + 65536 * (c as u32) + 16777216 * (d as u32)
+}
+
+// How far the eight bytes are from being all fill: the highest number less the one that they make
+// up. The bytes are read as one word, so that a route's fill takes one test.
+fn lacking(operand: &[u8]) -> u64
+    requires { ⌜ 8 ≤ length (now operand) ⌝ }
+    ensures { λ r. ⌜ r ≡ lackOf (take 8 (now (operand .entry))) ⌝ }
+{
+    let lower = four(operand[0], operand[1], operand[2], operand[3]) as u64;
+    let upper = four(operand[4], operand[5], operand[6], operand[7]) as u64;
+    18446744073709551615 - (lower + 4294967296 * upper)
+}
+
+// The servers of a route that ends at `last`: those of `sound` that are no longer free.
+fn ended(sound: u8, free: u8, last: u8, receiver: u8) -> u8
+    ensures { λ r. ⌜ r ≡ cond (eqb last receiver) (minus sound free) 0 ⌝ }
+{
+    if last == receiver {
+        return sets::minus(sound, free);
+    }
+    0
+}
+
+// The set of the servers on the route that the operand starts with; empty where the route breaks a
+// rule on its own. `sound` is V−F, `rows` has for each server those that it has a link to. After the
+// source each server is one of those still free, linked from the one before; where only fill is
+// left, it is the receiver.
+pub fn check_route(sound: u8, rows: &[u8; 8], sources: u8, receiver: u8, operand: &[u8]) -> u8
+    ensures { λ r. ⌜ r ≡ routeSet sound (linksOf (now (rows .entry))) sources receiver (now (operand .entry)) ⌝ }
+{
+    if operand.len() < 8 {
+        return 0;
+    }
+    let mut last = operand[0];
+    if sets::member(sets::meet(sound, sources), last) {
+        let mut free = sets::minus(sound, sets::single(last));
+        let mut left = lacking(operand) / 256;
+        for k in 1..8usize {
+            let server = operand[k];
+            let linked = rows[last as usize];
+            if sets::member(sets::meet(free, linked), server) {
+                free = sets::minus(free, sets::single(server));
+                last = server;
+            } else {
+                return 0;
+            }
+            left = left / 256;
+            if left == 0 {
+                return ended(sound, free, last, receiver);
+            }
+        }
+        return 0;
+    }
+    0
+}
 
 // How many of the eight bytes stand before the fill, which starts at the first FF.
 fn path_length(operand: &[u8]) -> usize
@@ -21,105 +86,23 @@ fn path_length(operand: &[u8]) -> usize
     8
 }
 
-// The bytes from `start` to the eighth are all FF.
-fn is_filled(operand: &[u8], start: usize) -> bool
-    requires { ⌜ (8 ≤ length (now operand)) × (start ≤ 8) ⌝ }
-    ensures { λ r. ⌜ r ≡ isFill (drop start (take 8 (now (operand .entry)))) ⌝ }
-{
-    for k in start..8usize {
-        if operand[k] != 255 {
-            return false;
-        }
-    }
-    true
-}
-
-// From the source on, each server is one of V, outside F, none twice, linked from the one before,
-// and the last one is the receiver.
-fn goes_on(
-    n: u8,
-    links: [[bool; 8]; 8],
-    fault: u8,
-    receiver: u8,
-    operand: &[u8],
-    end: usize,
-) -> bool
-    requires { ⌜ (1 ≤ end) × (end ≤ length (now operand)) × (getD (now operand) 0 0 < 8) ⌝ }
-    ensures { λ r. ⌜ r ≡ goesOn n links (union fault (single (getD (now (operand .entry)) 0 0))) (getD (now (operand .entry)) 0 0) receiver (drop 1 (take end (now (operand .entry)))) ⌝ }
-{
-    let mut last = operand[0];
-    let mut busy = sets::union(fault, sets::single(last));
-    for i in 1..end {
-        let server = operand[i];
-        if n <= server {
-            return false;
-        }
-        if 8 <= server {
-            return false;
-        }
-        if sets::member(busy, server) {
-            return false;
-        }
-        let row = last as usize;
-        let mark = server as usize;
-        if links[row][mark] {
-            busy = sets::union(busy, sets::single(server));
-            last = server;
-        } else {
-            return false;
-        }
-    }
-    last == receiver
-}
-
 // The servers of the route that the operand starts with, as that part of the caller's plan with
 // the fill left off; empty where the route breaks a rule on its own.
-pub fn check_route(
-    n: u8,
-    links: [[bool; 8]; 8],
-    fault: u8,
+pub fn route_part<'a>(
+    sound: u8,
+    rows: &[u8; 8],
     sources: u8,
     receiver: u8,
-    operand: &[u8],
-) -> &[u8]
-    ensures { λ r. ⌜ now r ≡ checkedRoute n links fault sources receiver (now (operand .entry)) ⌝ }
+    operand: &'a [u8],
+) -> &'a [u8]
+    ensures { λ r. ⌜ now r ≡ checkedRoute sound (linksOf (now (rows .entry))) sources receiver (now (operand .entry)) ⌝ }
 {
     if operand.len() < 8 {
         return &operand[0..0];
     }
+    if check_route(sound, rows, sources, receiver, operand) == 0 {
+        return &operand[0..0];
+    }
     let end = path_length(operand);
-    if end < 2 {
-        return &operand[0..0];
-    }
-    if is_filled(operand, end) {
-        let source = operand[0];
-        if n <= source {
-            return &operand[0..0];
-        }
-        if sets::member(fault, source) {
-            return &operand[0..0];
-        }
-        if sets::member(sources, source) {
-            if goes_on(n, links, fault, receiver, operand, end) {
-                return &operand[0..end];
-            }
-            return &operand[0..0];
-        }
-        return &operand[0..0];
-    }
-    &operand[0..0]
-}
-
-// The set of the servers on a path.
-pub fn set_of(servers: &[u8]) -> u8
-    ensures { λ r. ⌜ r ≡ serversOf (now (servers .entry)) ⌝ }
-{
-    let mut set: u8 = 0;
-    let mut left = servers.len();
-    while 0 < left {
-        let at = left - 1;
-        set = sets::union(sets::single(servers[at]), set);
-        left = at;
-    }
-    set
+    &operand[0..end]
 }

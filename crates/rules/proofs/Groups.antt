@@ -18,7 +18,7 @@ use lib.Seq.{drop-drop, drop-cons, getD-drop, length-take-le, take-at}
 use lib.Dec.{eqb}
 use borrow.Author.Tests.{lt-ltb, le-ltb, eq-eqb, eqb-true}
 use Rattle.facts.proofs.Bools.{cases}
-use Rattle.sets.specs.Sets.{In, has, union, meet, minus, single}
+use Rattle.sets.specs.Sets.{In, has, union, meet, minus, single, full}
 use Rattle.sets.proofs.Members.{meet-comm, minus-small, apart-union, apart-left, apart-right}
 use Rattle.network.specs.Links.{Links}
 use Rattle.plan.specs.Due.{Group}
@@ -178,7 +178,7 @@ module _ (n : ℕ) (links : Links) (F : ℕ) (few : n ≤ 8) (s : List ℕ) (g :
   group-first k at c used a c′ e =
       let d = due-forward s at (g .command) _ a c′ e in
       let l = route-long s at (g .command) wide (d .0) (d .1) in
-      cases (isRoute n links F (g .sources) (g .receiver) (routeAt s at))
+      cases (isRoute (minus (full n) F) links (g .sources) (g .receiver) (routeAt s at))
       (λ p. let h = route-rules n links F few (g .sources) (g .receiver) (routeAt s at) l p in
       cases (eqb (meet used (others (path (routeAt s at)))) 0)
       (λ q. (

@@ -7,17 +7,17 @@
 --     separate-apart   separate routes to one receiver: their sets without the receiver do not meet; apart-separate the other way
 -- Assumes nothing.
 use mathlib.Core.Path.{_≡_, refl, sym, ap, _∙_}
-use mathlib.Core.Bool.{true, false, not}
+use mathlib.Core.Bool.{Bool, true, false, not, _&&_}
 use mathlib.Core.List.{List, [], _∷_, _++_}
 use Prim.Native.Nat.{ℕ, zero, suc, _+_, _-_, _^_, _≤_, _<_}
 use native.Mathlib.Omega.{arith}
-use lib.Pow.{pow-lt}
+use lib.Pow.{pow-lt, pow-mono}
 use lib.Dec.{eqb, ltb}
 use lib.ListN.{length, getD, replicate, length-append, length-replicate}
 use borrow.Author.Tests.{lt-ltb, eq-eqb, ne-eqb, ltb-true, eqb-true, eqb-false}
 use Rattle.facts.proofs.Bools.{cases, clash, is-false, and-left, and-right, both, not-true}
-use Rattle.sets.specs.Sets.{In, Out, has, union, single, meet, minus}
-use Rattle.sets.proofs.Members.{has-union, has-minus, has-single, has-empty, union-small, minus-small, meet-apart, apart-meet}
+use Rattle.sets.specs.Sets.{In, has, union, single, meet, minus, full}
+use Rattle.sets.proofs.Members.{has-union, has-minus, has-single, has-empty, has-below, has-full, full-small, union-small, minus-small, meet-apart, apart-meet}
 use Rattle.network.specs.Links.{Links, linkedIn}
 use Rattle.route.specs.Route.{path, isFill, filled, serversOf, goesOn, isPath, isRoute}
 use Rattle.rules.specs.Blocks.{Route, sourceOf, receiverOf, operand}
@@ -100,115 +100,99 @@ filled-append (b ∷ bs) k h =
     let ih = filled-append bs k (λ i l. h (suc i) (omega arith)) in
     cc
 
-module _ (n : ℕ) (links : Links) (few : n ≤ 8) where
-  -- the rules on the servers of a path, `busy` being the servers that it keeps away from
-  record Steps (busy : ℕ) (p : Route) : Type 0 where
-    servers : (i : ℕ) → i < length p → getD p i 0 < n
-    clear : (i : ℕ) → i < length p → Out (has busy) (getD p i 0)
+module _ (links : Links) where
+  -- the rules on the servers of a path that stays in `free`
+  record Steps (free : ℕ) (p : Route) : Type 0 where
+    inside : (i : ℕ) → i < length p → In (has free) (getD p i 0)
     once : (i j : ℕ) → i < j → j < length p → getD p i 0 ≡ getD p j 0 → ⊥
     linked : (i : ℕ) → suc i < length p → linkedIn links (getD p i 0) (getD p (suc i) 0) ≡ true
 
-  -- what is outside a union is outside both parts
-  outside : (busy b x : ℕ) → has (union busy (single b)) x ≡ false → (has busy x ≡ false) × (has (single b) x ≡ false)
-  outside busy b x e = let u = has-union busy (single b) x in cases (has busy x) (λ t. (cc, cc)) (λ t. (t, cc))
+  -- what is in a set without b is in the set and is not b
+  apart : (free b x : ℕ) → has (minus free (single b)) x ≡ true → (has free x ≡ true) × (has (single b) x ≡ false)
+  apart free b x e = let m = sym (has-minus free (single b) x) ∙ e in (and-left _ _ m, not-true (has (single b) x) (and-right (has free x) _ m))
 
-  no-steps : (busy : ℕ) → Steps busy []
-  no-steps busy = record {
-    servers = λ i h. absurd (omega arith);
-    clear = λ i h. absurd (omega arith);
-    once = λ i j h k e. omega arith;
-    linked = λ i h. absurd (omega arith);
-  }
+  no-steps : (free : ℕ) → Steps free []
+  no-steps free = record { inside = λ i h. absurd (omega arith); once = λ i j h k e. omega arith; linked = λ i h. absurd (omega arith) }
 
   -- a server before the path
-  module _ (busy b : ℕ) (bs : List ℕ) where
-    module _ (low : b < n) (out : has busy b ≡ false) (link : 0 < length bs → linkedIn links b (getD bs 0 0) ≡ true) (s : Steps (union busy (single b)) bs) where
-      more-servers : (i : ℕ) → i < length (b ∷ bs) → getD (b ∷ bs) i 0 < n
-      more-servers zero h = low
-      more-servers (suc i) h = s .servers i (omega arith)
-
-      more-clear : (i : ℕ) → i < length (b ∷ bs) → Out (has busy) (getD (b ∷ bs) i 0)
-      more-clear zero h = out
-      more-clear (suc i) h = (outside busy b (getD bs i 0) (s .clear i (omega arith))) .0
+  module _ (free b : ℕ) (bs : List ℕ) (small : free < 256) where
+    module _ (h : has free b ≡ true) (link : 0 < length bs → linkedIn links b (getD bs 0 0) ≡ true) (s : Steps (minus free (single b)) bs) where
+      more-inside : (i : ℕ) → i < length (b ∷ bs) → In (has free) (getD (b ∷ bs) i 0)
+      more-inside zero l = h
+      more-inside (suc i) l = (apart free b (getD bs i 0) (s .inside i (omega arith))) .0
 
       more-once : (i j : ℕ) → i < j → j < length (b ∷ bs) → getD (b ∷ bs) i 0 ≡ getD (b ∷ bs) j 0 → ⊥
-      more-once i zero h k e = omega arith
-      more-once zero (suc j) h k e =
-          let x = (outside busy b (getD bs j 0) (s .clear j (omega arith))) .1 in
-          clash (has (single b) (getD bs j 0)) (ap (has (single b)) (sym e) ∙ single-self b (omega arith)) x
-      more-once (suc i) (suc j) h k e = s .once i j (omega arith) (omega arith) e
+      more-once i zero l k e = omega arith
+      more-once zero (suc j) l k e =
+          let x = (apart free b (getD bs j 0) (s .inside j (omega arith))) .1 in
+          clash (has (single b) (getD bs j 0)) (ap (has (single b)) (sym e) ∙ single-self b (has-below 8 free b small h)) x
+      more-once (suc i) (suc j) l k e = s .once i j (omega arith) (omega arith) e
 
       more-linked : (i : ℕ) → suc i < length (b ∷ bs) → linkedIn links (getD (b ∷ bs) i 0) (getD (b ∷ bs) (suc i) 0) ≡ true
-      more-linked zero h = link (omega arith)
-      more-linked (suc i) h = s .linked i (omega arith)
+      more-linked zero l = link (omega arith)
+      more-linked (suc i) l = s .linked i (omega arith)
 
-      more-steps : Steps busy (b ∷ bs)
-      more-steps = record { servers = more-servers; clear = more-clear; once = more-once; linked = more-linked }
+      more-steps : Steps free (b ∷ bs)
+      more-steps = record { inside = more-inside; once = more-once; linked = more-linked }
 
-    module _ (s : Steps busy (b ∷ bs)) where
-      less-clear : (i : ℕ) → i < length bs → Out (has (union busy (single b))) (getD bs i 0)
-      less-clear i h =
-          let u = has-union busy (single b) (getD bs i 0) in
-          let c : has busy (getD bs i 0) ≡ false = s .clear (suc i) (omega arith) in
+    module _ (s : Steps free (b ∷ bs)) where
+      less-inside : (i : ℕ) → i < length bs → In (has (minus free (single b))) (getD bs i 0)
+      less-inside i h =
+          let m = has-minus free (single b) (getD bs i 0) in
+          let c : has free (getD bs i 0) ≡ true = s .inside (suc i) (omega arith) in
           let d = single-other b (getD bs i 0) (s .once 0 (suc i) (omega arith) (omega arith)) in
           cc
 
-      less-steps : Steps (union busy (single b)) bs
+      less-steps : Steps (minus free (single b)) bs
       less-steps = record {
-        servers = λ i h. s .servers (suc i) (omega arith);
-        clear = less-clear;
+        inside = less-inside;
         once = λ i j h k e. s .once (suc i) (suc j) (omega arith) (omega arith) e;
         linked = λ i h. s .linked (suc i) (omega arith);
       }
 
   -- the walk from a server on keeps the rules and ends at the receiver
-  abbrev Walk : (busy from r : ℕ) → List ℕ → Type 0
-  Walk busy from r bs = Steps busy bs × (0 < length bs → linkedIn links from (getD bs 0 0) ≡ true) × (getD (from ∷ bs) (length bs) 0 ≡ r)
+  abbrev Walk : (free from r : ℕ) → List ℕ → Type 0
+  Walk free from r bs = Steps free bs × (0 < length bs → linkedIn links from (getD bs 0 0) ≡ true) × (getD (from ∷ bs) (length bs) 0 ≡ r)
 
-  walk-of : (busy from r : ℕ) (bs : List ℕ) → goesOn n links busy from r bs ≡ true → Walk busy from r bs
+  walk-of : (free from r : ℕ) (bs : List ℕ) → free < 256 → goesOn links free from r bs ≡ true → Walk free from r bs
   unfolding goesOn
-  walk-of busy from r [] e = (no-steps busy, λ h. absurd (omega arith), eqb-true from r e)
-  walk-of busy from r (b ∷ bs) e =
-      let on = goesOn n links (union busy (single b)) b r bs in
-      let e1 = and-right (ltb b n) _ e in
-      let e2 = and-right (not (has busy b)) _ e1 in
-      let e3 = and-right (linkedIn links from b) on e2 in
-      let (s, link, ends) = walk-of (union busy (single b)) b r bs e3 in
-      (more-steps busy b bs (ltb-true b n (and-left _ _ e)) (not-true (has busy b) (and-left _ _ e1)) link s, λ h. and-left _ _ e2, ends)
+  walk-of free from r [] small e = (no-steps free, λ h. absurd (omega arith), eqb-true from r e)
+  walk-of free from r (b ∷ bs) small e =
+      let on = goesOn links (minus free (single b)) b r bs in
+      let e1 = and-right (has free b) _ e in
+      let (s, link, ends) = walk-of (minus free (single b)) b r bs (minus-small 8 free (single b) small) (and-right (linkedIn links from b) on e1) in
+      (more-steps free b bs small (and-left _ _ e) link s, λ h. and-left _ _ e1, ends)
 
-  of-walk : (busy from r : ℕ) (bs : List ℕ) → Walk busy from r bs → goesOn n links busy from r bs ≡ true
+  of-walk : (free from r : ℕ) (bs : List ℕ) → free < 256 → Walk free from r bs → goesOn links free from r bs ≡ true
   unfolding goesOn
-  of-walk busy from r [] (s, link, ends) = eq-eqb from r ends
-  of-walk busy from r (b ∷ bs) (s, link, ends) =
-      let ih = of-walk (union busy (single b)) b r bs (less-steps busy b bs s, λ h. s .linked 0 (omega arith), ends) in
-      let a = lt-ltb b n (s .servers 0 (omega arith)) in
-      let c : has busy b ≡ false = s .clear 0 (omega arith) in
+  of-walk free from r [] small (s, link, ends) = eq-eqb from r ends
+  of-walk free from r (b ∷ bs) small (s, link, ends) =
+      let ih = of-walk (minus free (single b)) b r bs (minus-small 8 free (single b) small) (less-steps free b bs small s, λ h. s .linked 0 (omega arith), ends) in
+      let a : has free b ≡ true = s .inside 0 (omega arith) in
       let d : linkedIn links from b ≡ true = link (omega arith) in
       cc
 
 -- the servers of a path of two servers or more, as a walk from the source
-module _ (n : ℕ) (links : Links) (F : ℕ) (few : n ≤ 8) (sources r : ℕ) where
-  path-steps : (p : Route) → isPath n links F sources r p ≡ true → (2 ≤ length p) × Steps n links few F p × In (has sources) (sourceOf p) × (receiverOf p ≡ r)
+module _ (W : ℕ) (links : Links) (small : W < 256) (sources r : ℕ) where
+  path-steps : (p : Route) → isPath W links sources r p ≡ true → (2 ≤ length p) × Steps links W p × In (has sources) (sourceOf p) × (receiverOf p ≡ r)
   unfolding isPath
   path-steps [] e = clash false e refl
   path-steps (b ∷ []) e = clash false e refl
   path-steps (b ∷ c ∷ bs) e =
-      let e1 = and-right (ltb b n) _ e in
-      let e2 = and-right (not (has F b)) _ e1 in
-      let (s, link, ends) = walk-of n links few (union F (single b)) b r (c ∷ bs) (and-right (has sources b) _ e2) in
+      let e1 = and-right (has W b) _ e in
+      let (s, link, ends) = walk-of links (minus W (single b)) b r (c ∷ bs) (minus-small 8 W (single b) small) (and-right (has sources b) _ e1) in
       let z : length (b ∷ c ∷ bs) - 1 ≡ length (c ∷ bs) = omega arith in
-      (omega arith, more-steps n links few F b (c ∷ bs) (ltb-true b n (and-left _ _ e)) (not-true (has F b) (and-left _ _ e1)) link s, and-left _ _ e2, rw z ends)
+      (omega arith, more-steps links W b (c ∷ bs) small (and-left _ _ e) link s, and-left _ _ e1, rw z ends)
 
-  steps-path : (p : Route) → 2 ≤ length p → Steps n links few F p → In (has sources) (sourceOf p) → receiverOf p ≡ r → isPath n links F sources r p ≡ true
+  steps-path : (p : Route) → 2 ≤ length p → Steps links W p → In (has sources) (sourceOf p) → receiverOf p ≡ r → isPath W links sources r p ≡ true
   unfolding isPath
   steps-path [] two s start ends = absurd (omega arith)
   steps-path (b ∷ []) two s start ends = absurd (omega arith)
   steps-path (b ∷ c ∷ bs) two s start ends =
       let z : length (b ∷ c ∷ bs) - 1 ≡ length (c ∷ bs) = omega arith in
       let last : getD (b ∷ c ∷ bs) (length (c ∷ bs)) 0 ≡ r = rw z at ends in
-      let on = of-walk n links few (union F (single b)) b r (c ∷ bs) (less-steps n links few F b (c ∷ bs) s, λ h. s .linked 0 (omega arith), last) in
-      let a = lt-ltb b n (s .servers 0 (omega arith)) in
-      let o : has F b ≡ false = s .clear 0 (omega arith) in
+      let on = of-walk links (minus W (single b)) b r (c ∷ bs) (minus-small 8 W (single b) small) (less-steps links W b (c ∷ bs) small s, λ h. s .linked 0 (omega arith), last) in
+      let a : has W b ≡ true = s .inside 0 (omega arith) in
       cc
 
 -- the set of servers, on lists of servers below 8
@@ -237,18 +221,33 @@ set-index (b ∷ bs) x e =
     (suc i, omega arith, g)
 
 module _ (n : ℕ) (links : Links) (F : ℕ) (few : n ≤ 8) where
-  steps-of : (p : Route) → IsRoute n links F p → Steps n links few F p
-  steps-of p g = record { servers = g .servers; clear = g .clear; once = g .once; linked = g .linked }
+  -- V−F
+  abbrev W : ℕ
+  W = minus (full n) F
+
+  sound-small : W < 256
+  sound-small = minus-small 8 (full n) F (let p : 2 ^ n ≤ 2 ^ 8 = pow-mono few in let l = full-small n in omega arith)
+
+  in-sound : (x : ℕ) → has W x ≡ (ltb x n && not (has F x))
+  in-sound x = has-minus (full n) F x ∙ ap (λ (b : Bool). b && not (has F x)) (has-full n x)
+
+  steps-of : (p : Route) → IsRoute n links F p → Steps links W p
+  steps-of p g = record {
+    inside = λ i h. let a = lt-ltb _ n (g .servers i h) in let b : has F (getD p i 0) ≡ false = g .clear i h in in-sound (getD p i 0) ∙ simp (a, b);
+    once = g .once;
+    linked = g .linked;
+  }
 
   -- the bytes of a route that keeps the rules
-  pub route-rules : (sources r : ℕ) (bytes : List ℕ) → length bytes ≡ 8 → isRoute n links F sources r bytes ≡ true
+  pub route-rules : (sources r : ℕ) (bytes : List ℕ) → length bytes ≡ 8 → isRoute (minus (full n) F) links sources r bytes ≡ true
       → IsRoute n links F (path bytes) × In (has sources) (sourceOf (path bytes)) × (receiverOf (path bytes) ≡ r) × (operand (path bytes) ≡ bytes)
   unfolding isRoute operand
   route-rules sources r bytes long e =
-      let (two, s, start, ends) = path-steps n links F few sources r (path bytes) (and-right (filled bytes) _ e) in
+      let (two, s, start, ends) = path-steps W links sound-small sources r (path bytes) (and-right (filled bytes) _ e) in
       let f = path-filled bytes (and-left (filled bytes) _ e) in
       let short = path-short bytes in
-      (record { two = two; eight = omega arith; servers = s .servers; clear = s .clear; once = s .once; linked = s .linked }, start, ends, rw long at f)
+      let m : (i : ℕ) → i < length (path bytes) → (ltb (getD (path bytes) i 0) n && not (has F (getD (path bytes) i 0))) ≡ true = λ i h. sym (in-sound (getD (path bytes) i 0)) ∙ s .inside i h in
+      (record { two = two; eight = omega arith; servers = λ i h. ltb-true _ n (and-left _ _ (m i h)); clear = λ i h. not-true _ (and-right (ltb (getD (path bytes) i 0) n) _ (m i h)); once = s .once; linked = s .linked }, start, ends, rw long at f)
 
   -- no server is a fill byte
   below-fill : (p : Route) → IsRoute n links F p → (i : ℕ) → i < length p → getD p i 0 < 255
@@ -275,11 +274,11 @@ module _ (n : ℕ) (links : Links) (F : ℕ) (few : n ≤ 8) where
 
   -- the operand of a route that keeps the rules passes the check
   pub rules-route : (sources r : ℕ) (p : Route) → IsRoute n links F p → In (has sources) (sourceOf p) → receiverOf p ≡ r
-      → isRoute n links F sources r (operand p) ≡ true
+      → isRoute (minus (full n) F) links sources r (operand p) ≡ true
   unfolding isRoute
   rules-route sources r p g start ends =
-      both (filled (operand p)) (isPath n links F sources r (path (operand p))) (operand-filled p g)
-      (rw (operand-path p g) (steps-path n links F few sources r p (g .two) (steps-of p g) start ends))
+      both (filled (operand p)) (isPath W links sources r (path (operand p))) (operand-filled p g)
+      (rw (operand-path p g) (steps-path W links sound-small sources r p (g .two) (steps-of p g) start ends))
 
   -- the servers of a route, as a set
 

@@ -1,178 +1,141 @@
--- `route::check_route` meets its contract. Each answer is one way a route keeps or breaks the rules, a lemma of `Paths` (route-..) whose premises,
--- the tests on the way to that return, `search` finds. Assumes nothing.
+-- `route::check_route` meets its contract. The invariant of its loop, `Walking`: the walk from here on gives the answer of the whole. The measure is
+-- how many of the eight bytes are left. Assumes nothing.
+use mathlib.Core.Path.{refl}
+use Prim.Native.Nat.{_-_, _≤_}
+use native.Mathlib.Omega.{arith}
+use lib.ListN.{length}
 use borrow.Author.Needs.{needs}
-use Rattle.route.proofs.Paths.{route-short, route-few, route-unfilled, route-past, route-faulty, route-astray, route-broken, route-sound, source-low}
+use Rattle.route.proofs.Walks.{route-short}
+use Rattle.route.proofs.Turns.{Walking, walk-astray, walk-starts, walk-over, walk-stops, walk-ends, walk-on}
 use Rattle.route.proofs.check_route.Statement.{statement}
 use Rattle.route.proofs.check_route.Tie as tie
 use Rattle.route.proofs.check_route.Reads as reads
 use Rattle.route.proofs.check_route.Lts as lts
-use Rattle.route.proofs.goes_on.Reads as goes-on-reads
-use Rattle.route.proofs.is_filled.Reads as is-filled-reads
-use Rattle.route.proofs.path_length.Reads as path-length-reads
+use Rattle.route.proofs.ended.Reads as ended-reads
+use Rattle.route.proofs.lacking.Reads as lacking-reads
+use Rattle.sets.proofs.meet.Reads as meet-reads
 use Rattle.sets.proofs.member.Reads as member-reads
+use Rattle.sets.proofs.minus.Reads as minus-reads
+use Rattle.sets.proofs.single.Reads as single-reads
 
-sub-result : tie.Need-sub-result
-sub-result c = search needs
+abbrev Inv-loop : tie.InvT-loop
+Inv-loop sound rows sources receiver operand last₀ free₀ left₀ k₀ last free left k = Walking sound rows sources receiver operand last free left k
 
-part-result-start : tie.Need-part-result-start
-part-result-start c = search needs
+abbrev μ-loop : tie.MeasureT-loop
+μ-loop sound rows sources receiver operand last₀ free₀ left₀ k₀ last free left k = 8 - k
 
-part-result-end : tie.Need-part-result-end
-part-result-end c = search needs
+-- where a turn of the loop stands
+abbrev begun : tie.At-loop Inv-loop μ-loop → tie.Start Inv-loop μ-loop
+begun c = c .before .before .before .before .before .before .before .before .before .before
 
--- the operand has fewer than eight bytes
-returns : tie.Need-returns
-returns c = search route-short
+-- the operand is long enough
+whole : (c : tie.At-loop Inv-loop μ-loop) → 8 ≤ length (begun c .args .operand .now)
+whole c = c .before .before .before .before .before .before .before .before .if1 .left
 
-path-length-requires : tie.Need-path-length-requires
-path-length-requires c κs = search needs
+returns : tie.Need-returns Inv-loop μ-loop
+returns c = search (needs, route-short)
 
-sub-result-2 : tie.Need-sub-result-2
-sub-result-2 c = search needs
+shared-slice-read-last : tie.Need-shared-slice-read-last Inv-loop μ-loop
+shared-slice-read-last c = search needs
 
-part-result-start-2 : tie.Need-part-result-start-2
-part-result-start-2 c = search needs
+meet-requires : tie.Need-meet-requires Inv-loop μ-loop
+meet-requires c κs = search needs
 
-part-result-end-2 : tie.Need-part-result-end-2
-part-result-end-2 c = search needs
-
--- fewer than two servers stand before the fill
-returns-2 : tie.Need-returns-2
-returns-2 c = search route-few
-
-is-filled-requires : tie.Need-is-filled-requires
-is-filled-requires c κs = search needs
-
-shared-slice-read-source : tie.Need-shared-slice-read-source
-shared-slice-read-source c = search needs
-
-sub-result-3 : tie.Need-sub-result-3
-sub-result-3 c = search needs
-
-part-result-start-3 : tie.Need-part-result-start-3
-part-result-start-3 c = search needs
-
-part-result-end-3 : tie.Need-part-result-end-3
-part-result-end-3 c = search needs
-
--- the source is none of V
-returns-3 : tie.Need-returns-3
-returns-3 c = search route-past
-
-member-requires : tie.Need-member-requires
+member-requires : tie.Need-member-requires Inv-loop μ-loop
 member-requires c κs = search needs
 
-sub-result-4 : tie.Need-sub-result-4
-sub-result-4 c = search needs
+single-requires : tie.Need-single-requires Inv-loop μ-loop
+single-requires c κs = search needs
 
-part-result-start-4 : tie.Need-part-result-start-4
-part-result-start-4 c = search needs
+minus-requires : tie.Need-minus-requires Inv-loop μ-loop
+minus-requires c κs = search needs
 
-part-result-end-4 : tie.Need-part-result-end-4
-part-result-end-4 c = search needs
+lacking-requires : tie.Need-lacking-requires Inv-loop μ-loop
+lacking-requires c κs = search needs
 
--- the source is in F
-returns-4 : tie.Need-returns-4
-returns-4 c = search route-faulty
+loop-holds : tie.Need-loop-holds Inv-loop μ-loop
+loop-holds c = search (needs, walk-starts)
 
-member-requires-2 : tie.Need-member-requires-2
+shared-slice-read-server : tie.Need-shared-slice-read-server Inv-loop μ-loop
+shared-slice-read-server c = search needs
+
+cast-linked : tie.Need-cast-linked Inv-loop μ-loop
+cast-linked c = search needs
+
+element-copy-out-linked : tie.Need-element-copy-out-linked Inv-loop μ-loop
+element-copy-out-linked c = search needs
+
+meet-requires-2 : tie.Need-meet-requires-2 Inv-loop μ-loop
+meet-requires-2 c κs = search needs
+
+member-requires-2 : tie.Need-member-requires-2 Inv-loop μ-loop
 member-requires-2 c κs = search needs
 
--- there is a first server, the path is inside the operand, and its source is one of eight
-goes-on-requires : tie.Need-goes-on-requires
-goes-on-requires c κs = search (needs, source-low)
+single-requires-2 : tie.Need-single-requires-2 Inv-loop μ-loop
+single-requires-2 c κs = search needs
 
-sub-result-5 : tie.Need-sub-result-5
-sub-result-5 c = search needs
+minus-requires-2 : tie.Need-minus-requires-2 Inv-loop μ-loop
+minus-requires-2 c κs = search needs
 
-part-result-start-5 : tie.Need-part-result-start-5
-part-result-start-5 c = search needs
+returns-2 : tie.Need-returns-2 Inv-loop μ-loop
+returns-2 c =
+    let l = c .before .before .before .before .before .before in
+    walk-stops (l .loop .inv) (whole l) (c .before .before .before .before .before .loop-test .taken) refl (c .before .before .meet2 .ensures) (c .before .member2 .ensures) (c .if3 .left)
 
-part-result-end-5 : tie.Need-part-result-end-5
-part-result-end-5 c = search needs
+ended-requires : tie.Need-ended-requires Inv-loop μ-loop
+ended-requires c κs = search needs
 
--- a route
-returns-5 : tie.Need-returns-5
-returns-5 c = search route-sound
+returns-3 : tie.Need-returns-3 Inv-loop μ-loop
+returns-3 c =
+    let t = c .before .before .before .before in
+    let l = t .before .before .before .before .before .before in
+    walk-ends (l .loop .inv) (whole l) (t .before .before .before .before .before .loop-test .taken) refl (t .before .before .meet2 .ensures) (t .before .member2 .ensures) (t .if3 .taken) (c .before .before .before .single2 .ensures) (c .before .before .minus2 .ensures) refl
+    (λ i. omega (arith, t .before .before .before .before .shared-slice-known3 .given i)) (c .before .if4 .taken) (c .ended .ensures)
 
-sub-result-6 : tie.Need-sub-result-6
-sub-result-6 c = search needs
+add-k : tie.Need-add-k Inv-loop μ-loop
+add-k c = search needs
 
-part-result-start-6 : tie.Need-part-result-start-6
-part-result-start-6 c = search needs
+loop-less : tie.Need-loop-less Inv-loop μ-loop
+loop-less c = search needs
 
-part-result-end-6 : tie.Need-part-result-end-6
-part-result-end-6 c = search needs
+loop-again : tie.Need-loop-again Inv-loop μ-loop
+loop-again c =
+    let t = c .before .before .before in
+    let l = t .before .before .before .before .before .before in
+    walk-on (l .loop .inv) (whole l) (t .before .before .before .before .before .loop-test .taken) refl (t .before .before .meet2 .ensures) (t .before .member2 .ensures) (t .if3 .taken) (c .before .before .single2 .ensures) (c .before .minus2 .ensures) refl (c .if4 .left)
 
--- some server on the way breaks a rule
-returns-6 : tie.Need-returns-6
-returns-6 c = search route-broken
+returns-4 : tie.Need-returns-4 Inv-loop μ-loop
+returns-4 c = search (needs, walk-over)
 
-sub-result-7 : tie.Need-sub-result-7
-sub-result-7 c = search needs
-
-part-result-start-7 : tie.Need-part-result-start-7
-part-result-start-7 c = search needs
-
-part-result-end-7 : tie.Need-part-result-end-7
-part-result-end-7 c = search needs
-
--- the first server is no source
-returns-7 : tie.Need-returns-7
-returns-7 c = search route-astray
-
-sub-result-8 : tie.Need-sub-result-8
-sub-result-8 c = search needs
-
-part-result-start-8 : tie.Need-part-result-start-8
-part-result-start-8 c = search needs
-
-part-result-end-8 : tie.Need-part-result-end-8
-part-result-end-8 c = search needs
-
--- something else than fill follows the servers
-returns-8 : tie.Need-returns-8
-returns-8 c = search route-unfilled
+returns-5 : tie.Need-returns-5 Inv-loop μ-loop
+returns-5 c = search (needs, walk-astray)
 
 pub check-route-spec : {M : Type 1} → statement M
 check-route-spec =
     tie.close
     (tie.spec
-    sub-result
-    part-result-start
-    part-result-end
+    Inv-loop
+    μ-loop
     returns
-    path-length-requires
-    sub-result-2
-    part-result-start-2
-    part-result-end-2
-    returns-2
-    is-filled-requires
-    shared-slice-read-source
-    sub-result-3
-    part-result-start-3
-    part-result-end-3
-    returns-3
+    shared-slice-read-last
+    meet-requires
     member-requires
-    sub-result-4
-    part-result-start-4
-    part-result-end-4
-    returns-4
+    single-requires
+    minus-requires
+    lacking-requires
+    loop-holds
+    shared-slice-read-server
+    cast-linked
+    element-copy-out-linked
+    meet-requires-2
     member-requires-2
-    goes-on-requires
-    sub-result-5
-    part-result-start-5
-    part-result-end-5
-    returns-5
-    sub-result-6
-    part-result-start-6
-    part-result-end-6
-    returns-6
-    sub-result-7
-    part-result-start-7
-    part-result-end-7
-    returns-7
-    sub-result-8
-    part-result-start-8
-    part-result-end-8
-    returns-8)
+    single-requires-2
+    minus-requires-2
+    returns-2
+    ended-requires
+    returns-3
+    add-k
+    loop-less
+    loop-again
+    returns-4
+    returns-5)

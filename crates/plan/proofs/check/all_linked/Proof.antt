@@ -4,24 +4,32 @@ use mathlib.Core.Path.{_≡_}
 use mathlib.Core.Logic.{⊎-elim}
 use Prim.Native.Nat.{_-_, _≤_}
 use native.Mathlib.Omega.{arith}
+use borrow.Author.Needs.{needs}
 use Rattle.sets.specs.Sets.{has}
+use Rattle.network.specs.Links.{linkedIn}
+use Rattle.network.specs.Rows.{linksOf}
 use Rattle.plan.specs.Members.{listFrom, members}
 use Rattle.plan.specs.Check.{allLinked}
-use Rattle.plan.proofs.Reports.{linked-starts, linked-lacks, linked-goes, linked-skips, linked-done}
-use borrow.Author.Needs.{needs}
+use Rattle.plan.proofs.Reports.{row-links, linked-starts, linked-lacks, linked-goes, linked-skips, linked-done}
 use Rattle.plan.proofs.check.all_linked.Statement.{statement}
 use Rattle.plan.proofs.check.all_linked.Tie as tie
 use Rattle.plan.proofs.check.all_linked.Reads as reads
 use Rattle.plan.proofs.check.all_linked.Lts as lts
-use Rattle.network.proofs.links.linked.Reads as linked-reads
 use Rattle.sets.proofs.member.Reads as member-reads
 
 abbrev Inv-loop : tie.InvT-loop
-Inv-loop links k set m₀ m =
-    (m ≤ 8) × (allLinked links k (listFrom (8 - m) m (has set)) ≡ allLinked links k (members set))
+Inv-loop rows k set m₀ m =
+    (m ≤ 8) × (allLinked (linksOf rows) k (listFrom (8 - m) m (has set)) ≡ allLinked (linksOf rows) k (members set))
 
 abbrev μ-loop : tie.MeasureT-loop
-μ-loop links k set m₀ m = 8 - m
+μ-loop rows k set m₀ m = 8 - m
+
+-- whether there is a link is known by the row
+linked : (c : tie.After-member2 Inv-loop μ-loop) → let l = c .before .before .before .before in
+    c .member2 .result ≡ linkedIn (linksOf (l .before .before .args .rows .now)) (l .before .loop .m) (l .before .before .args .k)
+linked c =
+    let l = c .before .before .before .before in
+    row-links _ _ _ (l .loop-test .taken) (l .before .before .pre) (c .member2 .ensures)
 
 loop-holds : tie.Need-loop-holds Inv-loop μ-loop
 loop-holds c = (omega arith, linked-starts _ _ _)
@@ -29,11 +37,17 @@ loop-holds c = (omega arith, linked-starts _ _ _)
 member-requires : tie.Need-member-requires Inv-loop μ-loop
 member-requires c κs = search needs
 
-linked-requires : tie.Need-linked-requires Inv-loop μ-loop
-linked-requires c κs = search needs
+cast-member : tie.Need-cast-member Inv-loop μ-loop
+cast-member c = search needs
+
+element-copy-out-member : tie.Need-element-copy-out-member Inv-loop μ-loop
+element-copy-out-member c = search needs
+
+member-requires-2 : tie.Need-member-requires-2 Inv-loop μ-loop
+member-requires-2 c κs = search needs
 
 returns : tie.Need-returns Inv-loop μ-loop
-returns c = linked-lacks _ _ _ _ (c .before .before .before .before .before .loop .inv .1) (c .before .before .before .before .loop-test .taken) _ (c .before .before .before .member .ensures) (c .before .before .if1 .taken) _ (c .before .linked .ensures) (c .if2 .left)
+returns c = let l = c .before .before .before .before .before in linked-lacks _ _ _ _ (l .before .loop .inv .1) (l .loop-test .taken) _ (c .before .before .before .before .member .ensures) (c .before .before .before .if1 .taken) _ (linked (c .before)) (c .if2 .left)
 
 add-m : tie.Need-add-m Inv-loop μ-loop
 add-m c = search needs
@@ -45,7 +59,7 @@ loop-again : tie.Need-loop-again Inv-loop μ-loop
 loop-again c = let l = c .before .before .before .loop in
     let h = c .before .before .loop-test .taken in
     let e = c .before .member .ensures in
-    (omega arith, ⊎-elim (λ w. linked-goes _ _ _ _ (l .inv .1) h _ e (w .0 .taken) _ (w .1 .ensures) (w .2 .taken)) (λ w. linked-skips _ _ _ _ (l .inv .1) h _ e (w .left)) (c .if1 .came))
+    (omega arith, ⊎-elim (λ w. linked-goes _ _ _ _ (l .inv .1) h _ e (w .0 .taken) _ (linked (record { before = record { before = record { before = c .before; if1 = w .0 }; member-arg = w .1 }; member2 = w .2 })) (w .3 .taken)) (λ w. linked-skips _ _ _ _ (l .inv .1) h _ e (w .left)) (c .if1 .came))
 
 returns-2 : tie.Need-returns-2 Inv-loop μ-loop
 returns-2 c = linked-done _ _ _ _ (c .before .loop .inv .1) (c .loop-test .left)
@@ -58,7 +72,9 @@ all-linked-spec =
     μ-loop
     loop-holds
     member-requires
-    linked-requires
+    cast-member
+    element-copy-out-member
+    member-requires-2
     returns
     add-m
     loop-less

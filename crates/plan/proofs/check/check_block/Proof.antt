@@ -3,6 +3,7 @@
 use mathlib.Core.Path.{refl, sym, _∙_}
 use native.Mathlib.Omega.{arith}
 use borrow.Author.Needs.{needs}
+use Rattle.network.specs.Rows.{linksOf}
 use Rattle.plan.proofs.Groups.{whole-command}
 use Rattle.plan.proofs.Parts.{Point, FromFault, FromSide, FromQuorum, block-cut, block-other, block-here, block-fault, block-known, block-side, block-part, block-empty, block-outside, block-rest}
 use Rattle.plan.proofs.check.check_block.Statement.{statement}
@@ -18,7 +19,7 @@ use Rattle.sets.proofs.within.Reads as within-reads
 
 -- what `Rest` says is still to test of the opening gives the answer
 abbrev Left : tie.Start → Point → Type 0
-Left c Rest = let a = c .args in Rest (a .n) (a .f) (a .links) (a .block .now) (a .fault) (a .part)
+Left c Rest = let a = c .args in Rest (a .n) (a .f) (linksOf (a .rows .now)) (a .block .now) (a .fault) (a .part)
 
 -- the command is a block's: its operands are there, and they are next
 here : (c : tie.Else2) → Left (c .before .before .before .before .before) FromFault

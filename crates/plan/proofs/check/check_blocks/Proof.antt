@@ -4,6 +4,7 @@ use mathlib.Core.Logic.{⊎-elim}
 use Prim.Native.Nat.{_-_}
 use native.Mathlib.Omega.{arith}
 use borrow.Author.Needs.{needs}
+use Rattle.network.specs.Rows.{linksOf}
 use Rattle.plan.proofs.Plans.{Going, going-starts, going-ends, going-skips, going-halts, going-moves}
 use Rattle.plan.proofs.check.check_blocks.Statement.{statement}
 use Rattle.plan.proofs.check.check_blocks.Tie as tie
@@ -14,10 +15,10 @@ use Rattle.sets.proofs.full.Reads as full-reads
 use Rattle.sets.proofs.sizes.Reads as sizes-reads
 
 abbrev Inv-loop : tie.InvT-loop
-Inv-loop n f links plan sizes limit at₀ carriages₀ i₀ at carriages i = Going n f links plan limit i at carriages
+Inv-loop n f rows plan sizes limit at₀ carriages₀ i₀ at carriages i = Going n f (linksOf rows) plan limit i at carriages
 
 abbrev μ-loop : tie.MeasureT-loop
-μ-loop n f links plan sizes limit at₀ carriages₀ i₀ at carriages i = limit - i
+μ-loop n f rows plan sizes limit at₀ carriages₀ i₀ at carriages i = limit - i
 
 sizes-requires : tie.Need-sizes-requires Inv-loop μ-loop
 sizes-requires c κs = search needs

@@ -5,6 +5,7 @@ use mathlib.Core.Logic.{⊎-elim}
 use Prim.Native.Nat.{_+_, _-_, _*_, _≤_}
 use native.Mathlib.Omega.{arith}
 use borrow.Author.Needs.{needs}
+use Rattle.network.specs.Rows.{linksOf}
 use Rattle.plan.proofs.Steps.{Cutting, cutting-starts, cutting-ends, cutting-skips, PartDue, block-placed, block-halts, block-moves}
 use Rattle.plan.proofs.check.check_cuts.Statement.{statement}
 use Rattle.plan.proofs.check.check_cuts.Tie as tie
@@ -18,17 +19,17 @@ use Rattle.sets.proofs.lowest.Reads as lowest-reads
 use Rattle.sets.proofs.minus.Reads as minus-reads
 
 abbrev Inv-loop : tie.InvT-loop
-Inv-loop n f links plan start before fault servers sound low limit at₀ carriages₀ p₀ at carriages p = Cutting n f links plan fault start before limit sound p at carriages
+Inv-loop n f rows plan start before fault servers sound low limit at₀ carriages₀ p₀ at carriages p = Cutting n f (linksOf rows) plan fault start before limit sound p at carriages
 
 abbrev μ-loop : tie.MeasureT-loop
-μ-loop n f links plan start before fault servers sound low limit at₀ carriages₀ p₀ at carriages p =
+μ-loop n f rows plan start before fault servers sound low limit at₀ carriages₀ p₀ at carriages p =
     limit - p
 
 -- p is a part of V−F: the block that starts here is next, and then those of the parts after p
 due : (c : tie.Then1 Inv-loop μ-loop) →
     let a = c .before .before .before .before .before .before .before .before .args in
     let l = c .before .before .before .loop in
-    PartDue (a .n) (a .f) (a .links) (a .plan .now) (a .fault) (a .start) (a .before) (c .before .before .before .before .before .before .full .result + 1) (c .before .before .before .before .before .minus .result) (l .p) (l .at) (l .carriages)
+    PartDue (a .n) (a .f) (linksOf (a .rows .now)) (a .plan .now) (a .fault) (a .start) (a .before) (c .before .before .before .before .before .before .full .result + 1) (c .before .before .before .before .before .minus .result) (l .p) (l .at) (l .carriages)
 due c = record { cutting = c .before .before .before .loop .inv; more = c .before .before .loop-test .taken; part = sym (c .before .is-part .ensures) ∙ c .if1 .taken }
 
 full-requires : tie.Need-full-requires Inv-loop μ-loop

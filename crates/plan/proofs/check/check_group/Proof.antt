@@ -1,113 +1,123 @@
 -- `plan::check::check_group` meets its contract. The invariant of its loop: what is left of the group gives the answer of the whole. The measure is
--- how many routes are left. A turn passes three points, `turn`, `due` and `sound`, and at each what is left to test gives that answer (`Groups`).
+-- how many routes are left. A turn passes three points, `turn`, `due` and `shares`, and at each what is left to test gives that answer (`Groups`).
 -- Assumes nothing.
 use mathlib.Core.Path.{_≡_, refl, _∙_}
-use Prim.Native.Nat.{suc, _+_, _-_, _≤_}
+use Prim.Native.Nat.{suc, min, _+_, _-_, _≤_}
 use native.Mathlib.Omega.{arith}
 use borrow.Author.Needs.{needs}
+use Rattle.sets.specs.Sets.{minus, full}
+use Rattle.network.specs.Rows.{linksOf}
 use Rattle.plan.specs.Check.{checkGroup}
 use Rattle.plan.specs.Answers.{groupOf}
-use Rattle.plan.proofs.Groups.{Point, FromCommand, FromRoute, FromSharing, group-cut, group-inside, group-other, group-due, group-done, route-wrong, route-sound, route-shares, route-apart}
+use Rattle.plan.proofs.Groups.{Point, FromCommand, FromRoute, FromSharing, group-other, group-due, group-done, route-wrong, route-sound, route-shares, route-apart}
 use Rattle.plan.proofs.check.check_group.Statement.{statement}
 use Rattle.plan.proofs.check.check_group.Tie as tie
 use Rattle.plan.proofs.check.check_group.Reads as reads
 use Rattle.plan.proofs.check.check_group.Lts as lts
-use Rattle.route.proofs.set_of.Reads as set-of-reads
-use Rattle.route.proofs.command.is_cut.Reads as is-cut-reads
+use Rattle.plan.proofs.check.is_route_due.Reads as is-route-due-reads
+use Rattle.plan.proofs.check.not_due.Reads as not-due-reads
 use Rattle.route.proofs.check_route.Reads as check-route-reads
+use Rattle.sets.proofs.full.Reads as full-reads
 use Rattle.sets.proofs.meet.Reads as meet-reads
 use Rattle.sets.proofs.minus.Reads as minus-reads
 use Rattle.sets.proofs.single.Reads as single-reads
 use Rattle.sets.proofs.union.Reads as union-reads
 
 abbrev Inv-loop : tie.InvT-loop
-Inv-loop n links fault plan start before command sources receiver count at₀ carriages₀ used₀ k₀ at carriages used k =
-    (k ≤ count) × (carriages ≤ at) × (checkGroup n links fault plan (groupOf command sources receiver count) (count - k) at carriages used ≡ checkGroup n links fault plan (groupOf command sources receiver count) count start before 0)
+Inv-loop n rows fault plan start before command sources receiver count sound at₀ carriages₀ used₀ k₀ at carriages used k =
+    (k ≤ count) × (carriages ≤ at) × (checkGroup n (linksOf rows) fault plan (groupOf command sources receiver count) (count - k) at carriages used ≡ checkGroup n (linksOf rows) fault plan (groupOf command sources receiver count) count start before 0)
 
 abbrev μ-loop : tie.MeasureT-loop
-μ-loop n links fault plan start before command sources receiver count at₀ carriages₀ used₀ k₀ at carriages used k =
+μ-loop n rows fault plan start before command sources receiver count sound at₀ carriages₀ used₀ k₀ at carriages used k =
     count - k
+
+-- where the group starts
+abbrev begun : tie.In-loop Inv-loop μ-loop → tie.Start Inv-loop μ-loop
+begun c = c .before .before .before .before .before
 
 -- inside the loop: what `Rest` says is still to test, of this turn's route and of those after it, gives the answer of the whole
 abbrev Left : tie.In-loop Inv-loop μ-loop → Point → Type 0
 Left c Rest =
-    let a = c .before .before .before .args in
+    let a = begun c .args in
     let l = c .before .loop in
     let g = groupOf (a .command) (a .sources) (a .receiver) (a .count) in
-    Rest (a .n) (a .links) (a .fault) (a .plan .now) g (a .count - (l .k + 1)) (l .at) (l .carriages) (l .used) (checkGroup (a .n) (a .links) (a .fault) (a .plan .now) g (a .count) (a .start) (a .before) 0)
+    Rest (a .n) (linksOf (a .rows .now)) (a .fault) (a .plan .now) g (a .count - (l .k + 1)) (l .at) (l .carriages) (l .used) (checkGroup (a .n) (linksOf (a .rows .now)) (a .fault) (a .plan .now) g (a .count) (a .start) (a .before) 0)
 
 -- a turn starts with all of its route to test
 turn : (c : tie.In-loop Inv-loop μ-loop) → Left c FromCommand
 turn c =
-    let a = c .before .before .before .args in
+    let a = begun c .args in
     let l = c .before .loop in
     let e : a .count - l .k ≡ suc (a .count - (l .k + 1)) = omega arith in
     record { gives = rw (← e) (l .inv .2) }
 
--- the command is the one due: its operands are there, and the rules for one route are next
-due : (c : tie.Else2 Inv-loop μ-loop) → Left (c .before .before .before .before) FromRoute
-due c = let i = c .before .before .before .before in group-due (turn i) (c .before .before .before .is-cut .ensures) (c .before .before .if1 .left) (c .if2 .left) (i .before .before .before .pre .0)
+-- the command is the one due: its operand is there, and the rules for one route are next
+due : (c : tie.Then1 Inv-loop μ-loop) → Left (c .before .before) FromRoute
+due c = let i = c .before .before in group-due (turn i) (c .before .is-route-due .ensures) (c .if1 .taken) (begun i .pre .0)
 
 -- the route is sound and its servers are known: what it shares is next
-sound : (c : tie.After-minus Inv-loop μ-loop) → let d = c .before .before .before .before .before .before in Left (d .before .before .before .before) (FromSharing (c .minus .result))
-sound c = route-sound (due (c .before .before .before .before .before .before)) (c .before .before .before .before .check-route .ensures) (c .before .before .before .if3 .left) (c .before .before .set-of .ensures) (c .before .single .ensures) (c .minus .ensures)
+shares : (c : tie.After-minus2 Inv-loop μ-loop) → Left (c .before .before .before .before .before .before .before) (FromSharing (c .minus2 .result))
+shares c =
+    let r = c .before .before .before in
+    let i = r .before .before .before .before in
+    route-sound (due (r .before .before)) (begun i .pre .2) (i .before .before .before .full .ensures) (i .before .before .minus .ensures) (r .check-route .ensures) (c .before .before .if2 .left) (c .before .single .ensures) (c .minus2 .ensures)
 
-loop-holds : tie.Need-loop-holds Inv-loop μ-loop
-loop-holds c = let e : c .before .args .count - 0 ≡ c .before .args .count = omega arith in (omega arith, c .before .pre .1, rw e refl)
-
-is-cut-requires : tie.Need-is-cut-requires Inv-loop μ-loop
-is-cut-requires c κs = search needs
-
-returns : tie.Need-returns Inv-loop μ-loop
-returns c = group-cut (turn (c .before .before)) (c .before .is-cut .ensures) (c .if1 .taken)
-
-shared-slice-read-if2 : tie.Need-shared-slice-read-if2 Inv-loop μ-loop
-shared-slice-read-if2 c = group-inside (turn (c .before .before .before)) (c .before .before .is-cut .ensures) (c .before .if1 .left)
-
-returns-2 : tie.Need-returns-2 Inv-loop μ-loop
-returns-2 c = group-other (turn (c .before .before .before .before)) (c .before .before .before .is-cut .ensures) (c .before .before .if1 .left) (c .if2 .taken)
-
-add-first : tie.Need-add-first Inv-loop μ-loop
-add-first c = omega (arith, due c)
-
-sub-operand : tie.Need-sub-operand Inv-loop μ-loop
-sub-operand c = omega (arith, due c)
-
-part-operand-start : tie.Need-part-operand-start Inv-loop μ-loop
-part-operand-start c = omega (arith, due c)
-
-part-operand-end : tie.Need-part-operand-end Inv-loop μ-loop
-part-operand-end c = omega (arith, due c)
-
-check-route-requires : tie.Need-check-route-requires Inv-loop μ-loop
-check-route-requires c κs = search needs
-
-returns-3 : tie.Need-returns-3 Inv-loop μ-loop
-returns-3 c = route-wrong (due (c .before .before .before)) (c .before .check-route .ensures) (c .if3 .taken)
-
-set-of-requires : tie.Need-set-of-requires Inv-loop μ-loop
-set-of-requires c κs = search needs
-
-single-requires : tie.Need-single-requires Inv-loop μ-loop
-single-requires c κs = search needs
+full-requires : tie.Need-full-requires Inv-loop μ-loop
+full-requires c κs = search needs
 
 minus-requires : tie.Need-minus-requires Inv-loop μ-loop
 minus-requires c κs = search needs
 
+loop-holds : tie.Need-loop-holds Inv-loop μ-loop
+loop-holds c = let e : c .before .before .before .args .count - 0 ≡ c .before .before .before .args .count = omega arith in (omega arith, c .before .before .before .pre .1, rw e refl)
+
+is-route-due-requires : tie.Need-is-route-due-requires Inv-loop μ-loop
+is-route-due-requires c κs = search needs
+
+not-due-requires : tie.Need-not-due-requires Inv-loop μ-loop
+not-due-requires c κs = search needs
+
+returns : tie.Need-returns Inv-loop μ-loop
+returns c = group-other (turn (c .before .before .before)) (c .before .before .is-route-due .ensures) (c .before .if1 .left) (c .not-due .ensures)
+
+add-first : tie.Need-add-first Inv-loop μ-loop
+add-first c = omega (arith, due c)
+
+sub-check-route : tie.Need-sub-check-route Inv-loop μ-loop
+sub-check-route c = omega (arith, due c)
+
+part-check-route-start : tie.Need-part-check-route-start Inv-loop μ-loop
+part-check-route-start c = omega (arith, due c)
+
+part-check-route-end : tie.Need-part-check-route-end Inv-loop μ-loop
+part-check-route-end c = omega (arith, due c)
+
+check-route-requires : tie.Need-check-route-requires Inv-loop μ-loop
+check-route-requires c κs = search needs
+
+returns-2 : tie.Need-returns-2 Inv-loop μ-loop
+returns-2 c = let r = c .before in let i = r .before .before .before .before in route-wrong (due (r .before .before)) (begun i .pre .2) (i .before .before .before .full .ensures) (i .before .before .minus .ensures) (r .check-route .ensures) (c .if2 .taken)
+
+single-requires : tie.Need-single-requires Inv-loop μ-loop
+single-requires c κs = search needs
+
+minus-requires-2 : tie.Need-minus-requires-2 Inv-loop μ-loop
+minus-requires-2 c κs = search needs
+
 meet-requires : tie.Need-meet-requires Inv-loop μ-loop
 meet-requires c κs = search needs
 
-returns-4 : tie.Need-returns-4 Inv-loop μ-loop
-returns-4 c = route-shares (sound (c .before .before)) (c .before .meet .ensures) (c .if4 .taken)
+returns-3 : tie.Need-returns-3 Inv-loop μ-loop
+returns-3 c = route-shares (shares (c .before .before)) (c .before .meet .ensures) (c .if3 .taken)
 
 union-requires : tie.Need-union-requires Inv-loop μ-loop
 union-requires c κs = search needs
 
 add-at : tie.Need-add-at Inv-loop μ-loop
-add-at c = omega (arith, sound (c .before .before .before))
+add-at c = omega (arith, shares (c .before .before .before))
 
 add-carriages : tie.Need-add-carriages Inv-loop μ-loop
-add-carriages c = omega (arith, sound (c .before .before .before))
+add-carriages c = omega (arith, shares (c .before .before .before))
 
 add-k : tie.Need-add-k Inv-loop μ-loop
 add-k c = search needs
@@ -116,10 +126,10 @@ loop-less : tie.Need-loop-less Inv-loop μ-loop
 loop-less c = search needs
 
 loop-again : tie.Need-loop-again Inv-loop μ-loop
-loop-again c = (omega arith, omega arith, route-apart (sound (c .before .before .before)) (c .before .before .meet .ensures) (c .before .if4 .left) (c .union .ensures))
+loop-again c = (omega arith, omega arith, route-apart (shares (c .before .before .before)) (c .before .before .meet .ensures) (c .before .if3 .left) (c .union .ensures))
 
-returns-5 : tie.Need-returns-5 Inv-loop μ-loop
-returns-5 c = group-done _ _ _ _ _ _ _ _ _ (omega arith) ∙ c .before .loop .inv .2
+returns-4 : tie.Need-returns-4 Inv-loop μ-loop
+returns-4 c = group-done _ _ _ _ _ _ _ _ _ (omega arith) ∙ c .before .loop .inv .2
 
 pub check-group-spec : {M : Type 1} → statement M
 check-group-spec =
@@ -127,26 +137,26 @@ check-group-spec =
     (tie.spec
     Inv-loop
     μ-loop
-    loop-holds
-    is-cut-requires
-    returns
-    shared-slice-read-if2
-    returns-2
-    add-first
-    sub-operand
-    part-operand-start
-    part-operand-end
-    check-route-requires
-    returns-3
-    set-of-requires
-    single-requires
+    full-requires
     minus-requires
+    loop-holds
+    is-route-due-requires
+    not-due-requires
+    returns
+    add-first
+    sub-check-route
+    part-check-route-start
+    part-check-route-end
+    check-route-requires
+    returns-2
+    single-requires
+    minus-requires-2
     meet-requires
-    returns-4
+    returns-3
     union-requires
     add-at
     add-carriages
     add-k
     loop-less
     loop-again
-    returns-5)
+    returns-4)

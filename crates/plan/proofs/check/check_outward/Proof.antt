@@ -4,6 +4,7 @@ use Prim.Native.Nat.{ℕ}
 use native.Mathlib.Omega.{arith}
 use borrow.Author.Needs.{needs}
 use lib.ListN.{length}
+use Rattle.network.specs.Rows.{linksOf}
 use Rattle.plan.specs.Members.{members}
 use Rattle.plan.specs.Due.{fan}
 use Rattle.route.specs.Commands.{width}
@@ -30,7 +31,7 @@ minus-requires-2 c κs = search needs
 
 check-fan-requires : tie.Need-check-fan-requires
 unfolding width
-check-fan-requires c κs = (refl, c .before .before .before .before .pre .1, c .before .before .before .before .pre .2)
+check-fan-requires c κs = (refl, c .before .before .before .before .pre .1, c .before .before .before .before .pre .2, c .before .before .before .before .pre .0)
 
 enum-known-outward : tie.Need-enum-known-outward
 enum-known-outward c = search needs
@@ -41,16 +42,16 @@ enum-known-outward-2 c = search needs
 check-reports-requires : tie.Need-check-reports-requires
 unfolding width
 check-reports-requires c κs = let a = c .before .before .before .before .before .before .before .before .args in
-    let x = code-bound 1 (length (a .block .now)) _ (fan-bound (a .n) (a .links) (a .fault) (a .block .now) (a .f) 19 (a .quorum) refl _ (a .start) (a .before) (c .before .before .before .before .before .before .before .before .pre .2) (omega arith)) _ (c .before .before .before .check-fan .ensures) _ _ (c .before .outward2 .given .1) in
+    let x = code-bound 1 (length (a .block .now)) _ (fan-bound (a .n) (linksOf (a .rows .now)) (a .fault) (a .block .now) (a .f) 19 (a .quorum) refl _ (a .start) (a .before) (c .before .before .before .before .before .before .before .before .pre .2) (omega arith)) _ (c .before .before .before .check-fan .ensures) _ _ (c .before .outward2 .given .1) in
     (c .before .before .before .before .before .before .before .before .pre .0, omega arith, x .0)
 
 returns : tie.Need-returns
 returns c = let a = c .before .before .before .before .before .before .before .before .args in
-    halts-then _ (λ (at carriages : ℕ). checkReports (a .n) (a .f) (a .links) (a .fault) (a .block .now) (members (a .fault)) at carriages) _ (c .before .before .before .check-fan .ensures ∙ ap (λ (x : ℕ). checkGroups (a .n) (a .links) (a .fault) (a .block .now) (fan (a .f) 19 (a .quorum) (members x)) (a .start) (a .before)) (others-is (a .n) (a .fault) (a .quorum) _ _ _ (c .before .before .before .before .before .before .before .before .pre .0) (c .before .before .before .before .before .before .full .ensures) (c .before .before .before .before .before .minus .ensures) (c .before .before .before .before .minus2 .ensures))) _ (c .before .outward .given .1)
+    halts-then _ (λ (at carriages : ℕ). checkReports (a .n) (a .f) (linksOf (a .rows .now)) (a .fault) (a .block .now) (members (a .fault)) at carriages) _ (c .before .before .before .check-fan .ensures ∙ ap (λ (x : ℕ). checkGroups (a .n) (linksOf (a .rows .now)) (a .fault) (a .block .now) (fan (a .f) 19 (a .quorum) (members x)) (a .start) (a .before)) (others-is (a .n) (a .fault) (a .quorum) _ _ _ (c .before .before .before .before .before .before .before .before .pre .0) (c .before .before .before .before .before .before .full .ensures) (c .before .before .before .before .before .minus .ensures) (c .before .before .before .before .minus2 .ensures))) _ (c .before .outward .given .1)
 
 returns-2 : tie.Need-returns-2
 returns-2 c = let a = c .before .before .before .before .before .before .before .before .before .args in
-    moves-then _ (λ (at carriages : ℕ). checkReports (a .n) (a .f) (a .links) (a .fault) (a .block .now) (members (a .fault)) at carriages) _ (c .before .before .before .before .check-fan .ensures ∙ ap (λ (x : ℕ). checkGroups (a .n) (a .links) (a .fault) (a .block .now) (fan (a .f) 19 (a .quorum) (members x)) (a .start) (a .before)) (others-is (a .n) (a .fault) (a .quorum) _ _ _ (c .before .before .before .before .before .before .before .before .before .pre .0) (c .before .before .before .before .before .before .before .full .ensures) (c .before .before .before .before .before .before .minus .ensures) (c .before .before .before .before .before .minus2 .ensures))) _ _ (c .before .before .outward2 .given .1) _ (c .check-reports .ensures)
+    moves-then _ (λ (at carriages : ℕ). checkReports (a .n) (a .f) (linksOf (a .rows .now)) (a .fault) (a .block .now) (members (a .fault)) at carriages) _ (c .before .before .before .before .check-fan .ensures ∙ ap (λ (x : ℕ). checkGroups (a .n) (linksOf (a .rows .now)) (a .fault) (a .block .now) (fan (a .f) 19 (a .quorum) (members x)) (a .start) (a .before)) (others-is (a .n) (a .fault) (a .quorum) _ _ _ (c .before .before .before .before .before .before .before .before .before .pre .0) (c .before .before .before .before .before .before .before .full .ensures) (c .before .before .before .before .before .before .minus .ensures) (c .before .before .before .before .before .minus2 .ensures))) _ _ (c .before .before .outward2 .given .1) _ (c .check-reports .ensures)
 
 pub check-outward-spec : {M : Type 1} → statement M
 check-outward-spec =

@@ -2,6 +2,7 @@
 -- (`Lowests`). The measure is how many are left. Assumes nothing.
 use borrow.Author.Needs.{needs}
 use lib.ListN.{length}
+use Rattle.network.specs.Rows.{linksOf}
 use Rattle.plan.specs.Members.{members}
 use Rattle.plan.specs.Due.{pairs}
 use Rattle.plan.specs.Check.{checkGroups}
@@ -18,11 +19,11 @@ use Rattle.sets.proofs.minus.Reads as minus-reads
 use Rattle.sets.proofs.single.Reads as single-reads
 
 abbrev Inv-loop : tie.InvT-loop
-Inv-loop n links fault plan start before quorum at₀ carriages₀ left₀ at carriages left =
-    Taking 1 (length plan) (rowStep n links fault plan (members quorum)) left (checkGroups n links fault plan (pairs (members quorum) (members quorum)) start before) at carriages
+Inv-loop n rows fault plan start before quorum at₀ carriages₀ left₀ at carriages left =
+    Taking 1 (length plan) (rowStep n (linksOf rows) fault plan (members quorum)) left (checkGroups n (linksOf rows) fault plan (pairs (members quorum) (members quorum)) start before) at carriages
 
 abbrev μ-loop : tie.MeasureT-loop
-μ-loop n links fault plan start before quorum at₀ carriages₀ left₀ at carriages left =
+μ-loop n rows fault plan start before quorum at₀ carriages₀ left₀ at carriages left =
     length (members left)
 
 -- the lowest of the receivers that are left is taken out of them

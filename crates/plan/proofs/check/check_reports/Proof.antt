@@ -3,6 +3,7 @@
 use mathlib.Core.Logic.{⊎-elim}
 use Prim.Native.Nat.{_-_}
 use native.Mathlib.Omega.{arith}
+use Rattle.network.specs.Rows.{linksOf}
 use Rattle.plan.proofs.Reports.{Point, Reporting, FromReport, FromOperands, reports-start, reports-done, reports-skip, reports-due, report-cut, report-inside, report-other, report-here, report-astray, report-wrong, report-sound}
 use borrow.Author.Needs.{needs}
 use Rattle.plan.proofs.check.check_reports.Statement.{statement}
@@ -14,14 +15,14 @@ use Rattle.route.proofs.command.is_cut.Reads as is-cut-reads
 use Rattle.sets.proofs.member.Reads as member-reads
 
 abbrev Inv-loop : tie.InvT-loop
-Inv-loop n f links fault plan start before count at₀ carriages₀ k₀ at carriages k = Reporting n links fault plan f start before k at carriages
+Inv-loop n f rows fault plan start before count at₀ carriages₀ k₀ at carriages k = Reporting n (linksOf rows) fault plan f start before k at carriages
 
 abbrev μ-loop : tie.MeasureT-loop
-μ-loop n f links fault plan start before count at₀ carriages₀ k₀ at carriages k = 8 - k
+μ-loop n f rows fault plan start before count at₀ carriages₀ k₀ at carriages k = 8 - k
 
 -- inside the loop: what `Rest` says is still to test gives the answer of the whole
 abbrev Left : tie.In-loop Inv-loop μ-loop → Point → Type 0
-Left c Rest = let a = c .before .before .before .args in let l = c .before .loop in Rest (a .n) (a .links) (a .fault) (a .plan .now) (a .f) (a .start) (a .before) (l .k) (l .at) (l .carriages)
+Left c Rest = let a = c .before .before .before .args in let l = c .before .loop in Rest (a .n) (linksOf (a .rows .now)) (a .fault) (a .plan .now) (a .f) (a .start) (a .before) (l .k) (l .at) (l .carriages)
 
 -- k is in F: the report to it is next
 due : (c : tie.Then1 Inv-loop μ-loop) → Left (c .before .before) FromReport

@@ -5,6 +5,7 @@ use mathlib.Core.Bool.{false}
 use borrow.Author.Needs.{needs}
 use lib.ListN.{length}
 use Rattle.sets.specs.Sets.{has}
+use Rattle.network.specs.Rows.{linksOf}
 use Rattle.plan.specs.Members.{members}
 use Rattle.plan.specs.Due.{toOne}
 use Rattle.plan.specs.Check.{checkGroups}
@@ -22,11 +23,11 @@ use Rattle.sets.proofs.minus.Reads as minus-reads
 use Rattle.sets.proofs.single.Reads as single-reads
 
 abbrev Inv-loop : tie.InvT-loop
-Inv-loop n links fault plan start before quorum receiver at₀ carriages₀ left₀ at carriages left =
-    (has left receiver ≡ false) × Taking 1 (length plan) (toOneStep n links fault plan receiver) left (checkGroups n links fault plan (toOne receiver (members quorum)) start before) at carriages
+Inv-loop n rows fault plan start before quorum receiver at₀ carriages₀ left₀ at carriages left =
+    (has left receiver ≡ false) × Taking 1 (length plan) (toOneStep n (linksOf rows) fault plan receiver) left (checkGroups n (linksOf rows) fault plan (toOne receiver (members quorum)) start before) at carriages
 
 abbrev μ-loop : tie.MeasureT-loop
-μ-loop n links fault plan start before quorum receiver at₀ carriages₀ left₀ at carriages left =
+μ-loop n rows fault plan start before quorum receiver at₀ carriages₀ left₀ at carriages left =
     length (members left)
 
 -- the lowest of the sources that are left is taken out of them
@@ -35,7 +36,7 @@ first c = take-lowest (c .before .before .before .before .loop .inv .1 .small) (
 
 -- it is not the receiver, so its route is a step
 stepped : (c : tie.After-check-one Inv-loop μ-loop) → let a = c .before .before .before .before .before .before .before .before .before .args in let l = c .before .before .before .before .before .loop in
-    progressOf (c .check-one .result) ≡ toOneStep (a .n) (a .links) (a .fault) (a .plan .now) (a .receiver) (c .before .before .before .lowest .result) (l .at) (l .carriages)
+    progressOf (c .check-one .result) ≡ toOneStep (a .n) (linksOf (a .rows .now)) (a .fault) (a .plan .now) (a .receiver) (c .before .before .before .lowest .result) (l .at) (l .carriages)
 stepped c = toOne-other _ _ _ _ _ _ _ _ (out-other (first (c .before)) (c .before .before .before .before .before .loop .inv .0)) _ (c .before .before .single2 .ensures) _ (c .check-one .ensures)
 
 single-requires : tie.Need-single-requires Inv-loop μ-loop

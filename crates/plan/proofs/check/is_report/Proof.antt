@@ -33,13 +33,13 @@ all-linked-requires : tie.Need-all-linked-requires
 all-linked-requires c κs = search needs
 
 returns : tie.Need-returns
-returns c = report-linked _ _ _ _ _ _ (c .before .before .before .before .before .before .before .pre) _ _ (c .before .before .before .before .before .before .full .ensures) (c .before .before .before .before .before .minus .ensures) _ (c .before .before .before .before .within .ensures) (c .before .before .before .if1 .taken) _ (c .before .before .size .ensures) (c .before .if2 .taken) _ (c .all-linked .ensures)
+returns c = report-linked _ _ _ _ _ _ (c .before .before .before .before .before .before .before .pre .0) _ _ (c .before .before .before .before .before .before .full .ensures) (c .before .before .before .before .before .minus .ensures) _ (c .before .before .before .before .within .ensures) (c .before .before .before .if1 .taken) _ (c .before .before .size .ensures) (c .before .if2 .taken) _ (c .all-linked .ensures)
 
 returns-2 : tie.Need-returns-2
-returns-2 c = report-few _ _ _ _ _ _ (c .before .before .before .before .before .before .pre) _ _ (c .before .before .before .before .before .full .ensures) (c .before .before .before .before .minus .ensures) _ (c .before .before .before .within .ensures) (c .before .before .if1 .taken) _ (c .before .size .ensures) (c .if2 .left)
+returns-2 c = report-few _ _ _ _ _ _ (c .before .before .before .before .before .before .pre .0) _ _ (c .before .before .before .before .before .full .ensures) (c .before .before .before .before .minus .ensures) _ (c .before .before .before .within .ensures) (c .before .before .if1 .taken) _ (c .before .size .ensures) (c .if2 .left)
 
 returns-3 : tie.Need-returns-3
-returns-3 c = report-outside _ _ _ _ _ _ (c .before .before .before .before .pre) _ _ (c .before .before .before .full .ensures) (c .before .before .minus .ensures) _ (c .before .within .ensures) (c .if1 .left)
+returns-3 c = report-outside _ _ _ _ _ _ (c .before .before .before .before .pre .0) _ _ (c .before .before .before .full .ensures) (c .before .before .minus .ensures) _ (c .before .within .ensures) (c .if1 .left)
 
 pub is-report-spec : {M : Type 1} → statement M
 is-report-spec =
