@@ -82,8 +82,8 @@ lirgoth load SITE
 
 Says how many routes of SITE/network.plan each office relays, that is, stands on as neither
 source nor receiver, and which part of all relaying places that is: a line for each office,
-the widest relay first. A relaying place is one office on one route. Refusals and a network
-for which no plan can help are told as by explain.
+the widest relay first. Each office that relays a route is one relaying place. Refusals, and
+a bad split, are told as by explain.
 ";
 
 pub const DRILL: &str = "\

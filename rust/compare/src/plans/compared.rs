@@ -14,12 +14,14 @@ pub trait Compared: Default {
 
     fn of_reference(card: &[u8], plan: &[u8]) -> Result<Self::Answer, Refusal>;
 
-    /// What is wrong with an answer that both give, by the demands on every such answer.
+    /// What is wrong with an answer that both give, where more is demanded of it than that.
     fn fault(
-        card: &[u8],
-        plan: &[u8],
-        answer: &Result<Self::Answer, Refusal>,
-    ) -> Option<&'static str>;
+        _card: &[u8],
+        _plan: &[u8],
+        _answer: &Result<Self::Answer, Refusal>,
+    ) -> Option<&'static str> {
+        None
+    }
 
     /// Counts the answer on `card`.
     fn count(&mut self, card: &[u8], answer: &Result<Self::Answer, Refusal>);

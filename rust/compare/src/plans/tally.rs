@@ -51,10 +51,6 @@ impl Compared for Tally {
         reference::check_plan(card, plan)
     }
 
-    fn fault(_: &[u8], _: &[u8], _: &Result<Totals, Refusal>) -> Option<&'static str> {
-        None
-    }
-
     fn count(&mut self, _: &[u8], answer: &Result<Totals, Refusal>) {
         self.count_refusal(answer.err());
     }
