@@ -12,7 +12,8 @@
  * It also holds each answer to what the header promises: no row of a card has a server that is not
  * there or its own, a refused card's are empty, a printed card has the links of its rows in order, is
  * read as the same rows and stays as it is when printed again, the quick test answers exactly the cards
- * whose links all have a return, by its numbers and as the split test does, no lent byte past what is
+ * whose links all have a return, by its numbers and as the split test does, the load is refused as the
+ * plan check refuses, and else adds up to the relaying places of the plan's bytes, no lent byte past what is
  * written is changed, a refused call changes none, the bits of the servers that are not faulty are equal
  * and some such server's input, and a server's start, asks and commits refuse what they should and else
  * lead from kind to kind, with no value sent but its own.
@@ -261,6 +262,46 @@ static void hold_quick(const uint64_t answer[4], const uint64_t network[12], con
         fail("quick test and split test do not agree");
 }
 
+/* The relaying places of an accepted plan: for each route, its bytes before the fill less two. */
+static uint64_t relaying_places(struct list plan)
+{
+    uint64_t places = 0;
+    for (size_t at = 0; plan.bytes[at] != 0x15;) {
+        if (plan.bytes[at] == 0x10) {
+            at += 4;
+        } else if (plan.bytes[at] == 0x14) {
+            at += 3;
+        } else {
+            size_t servers = 0;
+            while (servers < 8 && plan.bytes[at + 1 + servers] != 0xFF)
+                servers++;
+            places += servers - 2;
+            at += 9;
+        }
+    }
+    return places;
+}
+
+/* The load of a plan that was checked with this answer. */
+static void hold_load(const uint64_t answer[9], struct list plan, const uint64_t network[12],
+                      const uint64_t checked[4])
+{
+    static const uint64_t zeros[5];
+    if (checked[0] != AGREEMENT_ANSWERED) {
+        if (memcmp(answer, checked, 4 * sizeof *answer) != 0 || memcmp(answer + 4, zeros, sizeof zeros) != 0)
+            fail("a load has another refusal than the plan check");
+        return;
+    }
+    uint64_t sum = 0;
+    for (unsigned i = 0; i < AGREEMENT_SERVERS; i++) {
+        sum += answer[1 + i];
+        if (i >= network[1] && answer[1 + i] != 0)
+            fail("a server relays that is not there");
+    }
+    if (answer[0] != AGREEMENT_ANSWERED || sum != relaying_places(plan))
+        fail("a load does not add up to the relaying places");
+}
+
 static void hold_run(const uint64_t answer[4], const uint8_t *lent, size_t size, const uint8_t *inputs,
                      uint64_t n, uint8_t faulty)
 {
@@ -447,14 +488,14 @@ static void call_own(struct files files, const uint64_t network[12], const uint6
     free(words);
 }
 
-/* How many runs were answered, how many cards printed and how many found two-way. */
-static uint64_t answered, cards, two_way;
+/* How many runs were answered, how many cards printed, how many found two-way, and how many loads had relays. */
+static uint64_t answered, cards, two_way, relayed;
 
 /* Calls every function on the files; says whether an answer was new. */
 static int call_all(struct files files)
 {
     const uint8_t *card = start_of(files.card), *plan = start_of(files.plan);
-    uint64_t network[12], printed[4], split[5], quick[4], checked[4], ran[4];
+    uint64_t network[12], printed[4], split[5], quick[4], checked[4], load[9], ran[4];
     int fresh = 0;
     agreement_read_card(card, files.card.length, network);
     fresh |= is_new(network, 0);
@@ -470,6 +511,10 @@ static int call_all(struct files files)
     two_way += quick[0] == AGREEMENT_ANSWERED;
     agreement_check_plan(card, files.card.length, plan, files.plan.length, checked);
     fresh |= is_new(checked, 2);
+    agreement_load(card, files.card.length, plan, files.plan.length, load);
+    fresh |= is_new(load, 6);
+    hold_load(load, files.plan, network, checked);
+    relayed += load[0] == AGREEMENT_ANSWERED && relaying_places(files.plan) > 0;
     call_own(files, network, checked);
 
     uint64_t n = network[0] == AGREEMENT_ANSWERED ? network[1] : draw(10);
@@ -529,8 +574,8 @@ int main(int argc, char **argv)
         }
     }
     printf("campaign: %" PRIu64 " rounds, %" PRIu64 " cards printed, %" PRIu64 " two-way, %" PRIu64
-           " runs answered, %" PRIu64 " turns, %zu kept\n",
-           calls, cards, two_way, answered, turns, pooled);
+           " loads with relays, %" PRIu64 " runs answered, %" PRIu64 " turns, %zu kept\n",
+           calls, cards, two_way, relayed, answered, turns, pooled);
     for (size_t i = 0; i < pooled; i++) {
         free(pool[i].card.bytes);
         free(pool[i].plan.bytes);

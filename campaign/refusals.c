@@ -120,6 +120,13 @@ static void check_plan(const char *what, struct list card, struct list plan,
     hold("agreement_check_plan", what, answer.words, expected, 4);
 }
 
+static void load(const char *what, struct list card, struct list plan, const uint64_t expected[9])
+{
+    struct answer answer = blank();
+    agreement_load(card.bytes, card.length, plan.bytes, plan.length, answer.words);
+    hold("agreement_load", what, answer.words, expected, 9);
+}
+
 /* A call to run without its card and plan. */
 struct call {
     struct list inputs;
@@ -144,6 +151,8 @@ static void run(const char *what, struct list card, struct list plan, struct cal
         }
     }
 }
+
+static const uint64_t no_relays[9] = {AGREEMENT_ANSWERED};
 
 static const struct call two_servers = {{(const uint8_t[]){1, 0}, 2}, 0, AGREEMENT_SERVERS};
 
@@ -218,6 +227,7 @@ static void card_refused(const char *what, struct list card, uint64_t number, ui
     split_test(what, card, expected);
     quick_test(what, card, expected);
     check_plan(what, card, zeros_of(0), expected);
+    load(what, card, zeros_of(0), expected);
     run(what, card, zeros_of(0), two_servers, expected, 0);
     site_refused(what, card, zeros_of(0), expected);
 }
@@ -225,8 +235,9 @@ static void card_refused(const char *what, struct list card, uint64_t number, ui
 static void plan_refused(const char *what, struct list card, struct list plan, uint64_t number,
                          uint64_t place)
 {
-    const uint64_t expected[7] = {AGREEMENT_REFUSED, AGREEMENT_PLAN, number, place};
+    const uint64_t expected[9] = {AGREEMENT_REFUSED, AGREEMENT_PLAN, number, place};
     check_plan(what, card, plan, expected);
+    load(what, card, plan, expected);
     run(what, card, plan, two_servers, expected, 0);
     site_refused(what, card, plan, expected);
 }
@@ -427,6 +438,29 @@ static void quick_tests(void)
     quick_test("six servers with all links", complete_card(6, 2), six);
 }
 
+/* A route over one relay, and one over all servers that there can be. */
+#define RELAYED(source, relay, receiver) source, relay, receiver, FILL, FILL, FILL, FILL, FILL
+#define ALONG 0, 1, 2, 3, 4, 5, 6, 7
+
+/* Three servers in a row, with a relay in each of three blocks, and a route over all of eight. */
+static void loads(void)
+{
+    const uint64_t one[9] = {AGREEMENT_ANSWERED, 0, 3};
+    load("three servers in a row", LIST(HEAD, 3, 0, LINK, 0, 1, LINK, 1, 2, CARD_END),
+         LIST(BLOCK, 0, 1, 1, FROM_S, DIRECT(0, 1), FROM_S, RELAYED(0, 1, 2),
+              BLOCK, 0, 3, 1, FROM_S, DIRECT(0, 1), FROM_S, RELAYED(0, 1, 2),
+              BLOCK, 0, 5, 1, FROM_S, DIRECT(0, 1), FROM_S, RELAYED(0, 1, 2), PLAN_END),
+         one);
+    /* The last route of the first block over all servers, in place of a direct one. */
+    const uint64_t along[9] = {AGREEMENT_ANSWERED, 0, 1, 1, 1, 1, 1, 1, 0};
+    const uint8_t route[] = {FROM_S, ALONG};
+    uint64_t blocks;
+    struct list card = complete_card(AGREEMENT_SERVERS, 0);
+    struct list plan = direct_plan(AGREEMENT_SERVERS, 0, &blocks);
+    memcpy(plan_bytes + 4 + 6 * sizeof route, route, sizeof route);
+    load("a route over all servers", card, plan, along);
+}
+
 static struct own closed(struct own own)
 {
     own.state[4] = 0;
@@ -513,6 +547,7 @@ static void small_site(const char *what, struct list card, struct list plan)
     printed(what, card, (struct list){small_card, sizeof small_card});
     split_test(what, card, none);
     check_plan(what, card, plan, totals);
+    load(what, card, plan, no_relays);
     run(what, card, plan, two_servers, totals, 2);
     own_part(card, plan);
     bad_states(card, plan);
@@ -560,6 +595,7 @@ static void most_servers(void)
         status = 1;
     }
     check_plan("all servers", card, plan, totals);
+    load("all servers", card, plan, no_relays);
     run("all servers", card, plan, call, totals, AGREEMENT_SERVERS);
     /* A buffer of the limit is enough for every ask of every server. */
     for (uint64_t block = 0; block < totals[1]; block++)
@@ -587,6 +623,7 @@ int main(void)
     calls(card, plan);
     prints();
     quick_tests();
+    loads();
     small_site("the small site", card, plan);
     twin_cables(plan);
     bad_split();

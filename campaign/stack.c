@@ -24,13 +24,13 @@
 enum { SIZE = 4 * AGREEMENT_STACK, PAINT = 0xA5, FILE_MOST = 70000 };
 
 enum function {
-    VERSION, READ_CARD, PRINT_CARD, SPLIT_TEST, QUICK_TEST, CHECK_PLAN, RUN, START, ASK, COMMIT, FUNCTIONS
+    VERSION, READ_CARD, PRINT_CARD, SPLIT_TEST, QUICK_TEST, CHECK_PLAN, LOAD, RUN, START, ASK, COMMIT, FUNCTIONS
 };
 
 static const char *const names[FUNCTIONS] = {
     "agreement_version", "agreement_read_card", "agreement_print_card", "agreement_split_test",
-    "agreement_quick_test", "agreement_check_plan", "agreement_run", "agreement_start",
-    "agreement_ask", "agreement_commit"};
+    "agreement_quick_test", "agreement_check_plan", "agreement_load", "agreement_run",
+    "agreement_start", "agreement_ask", "agreement_commit"};
 
 struct list {
     uint8_t bytes[FILE_MOST];
@@ -72,6 +72,9 @@ static void call(void)
         break;
     case CHECK_PLAN:
         agreement_check_plan(card.bytes, card.length, plan.bytes, plan.length, answer);
+        break;
+    case LOAD:
+        agreement_load(card.bytes, card.length, plan.bytes, plan.length, answer);
         break;
     case RUN:
         agreement_run(card.bytes, card.length, plan.bytes, plan.length, inputs, inputs_length,
@@ -163,6 +166,7 @@ static void call_all(void)
     call_apart(SPLIT_TEST);
     call_apart(QUICK_TEST);
     call_apart(CHECK_PLAN);
+    call_apart(LOAD);
     call_run();
     turn++;
     server = turn / 4 % AGREEMENT_SERVERS;

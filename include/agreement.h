@@ -1,6 +1,7 @@
 /*
  * The agreement library for x86-64 Linux (System V ABI): card reader, card printed back, split
- * test, quick test for two-way sites, plan check, run, and a server's own part in a live network.
+ * test, quick test for two-way sites, plan check, load on each relay, run, and a server's own part
+ * in a live network.
  *
  * The library is written in Rattle and proved: every function below meets the contract that is
  * written above it, for all arguments. It allocates nothing, keeps no state and calls nothing, so
@@ -10,7 +11,7 @@
  *
  *   - A byte list is a pointer and a length. The pointer is not null, also where the length is 0,
  *     and `length` bytes can be read there (from `lent`: read and written).
- *   - `answer` points to 4, 5, 6, 7 or 12 words, as the declaration says, which the call fills.
+ *   - `answer` points to 4, 5, 6, 7, 9 or 12 words, as the declaration says, which the call fills.
  *     `state` points to 5 words, which it only reads.
  *   - The bytes and words that a call writes (`lent`, `answer`) lie apart from each other and from
  *     everything that it reads.
@@ -92,7 +93,7 @@ extern "C" {
 
 /* The version of this header. */
 #define AGREEMENT_VERSION_MAJOR 0
-#define AGREEMENT_VERSION_MINOR 5
+#define AGREEMENT_VERSION_MINOR 6
 #define AGREEMENT_VERSION_PATCH 0
 #define AGREEMENT_VERSION \
     (UINT64_C(1000000) * AGREEMENT_VERSION_MAJOR + UINT64_C(1000) * AGREEMENT_VERSION_MINOR + \
@@ -218,6 +219,19 @@ void agreement_quick_test(const uint8_t *card, size_t card_length, uint64_t answ
  */
 void agreement_check_plan(const uint8_t *card, size_t card_length, const uint8_t *plan,
                           size_t plan_length, uint64_t answer[4]);
+
+/*
+ * The load on each relay: how many of the plan's routes does each server relay? A server relays a
+ * route if it stands on it as neither source nor receiver. Routes are those of the commands 11, 12
+ * and 13; a member of an N tells k its value over a link, with no relay.
+ * answer: 0 and eight counts. The word answer[1 + i] is the number of routes that server i relays,
+ * and it is 0 where i is no server. The eight counts add up to the relaying places over all routes,
+ * as the plan's bytes have them: for each route, its bytes before the fill less two.
+ * Or answer: 2, AGREEMENT_CARD or AGREEMENT_PLAN, number, place and five zeros: the refusal of
+ * agreement_check_plan, exactly where that refuses.
+ */
+void agreement_load(const uint8_t *card, size_t card_length, const uint8_t *plan,
+                    size_t plan_length, uint64_t answer[9]);
 
 /*
  * The run: Algorithm BC with the plan's choices. It plays the whole network at once, with what the

@@ -2,8 +2,8 @@
 //! with `None` for words that the library's contract rules out.
 
 use crate::{
-    Asked, CallGround, CardGround, Network, PlanGround, Quick, Refusal, ServerSet, Split, State,
-    Totals,
+    Asked, CallGround, CardGround, Load, Network, PlanGround, Quick, Refusal, ServerSet, Split,
+    State, Totals,
 };
 use crate::{CLEAN_CARD_LIMIT, PLAN_LIMIT, VALUES_LIMIT};
 
@@ -30,6 +30,8 @@ const LONGEST_CLEAN: u64 = CLEAN_CARD_LIMIT as u64;
 const MOST_BLOCKS: u64 = 1_499;
 /// No carriage takes less than a byte of its plan.
 const MOST_CARRIAGES: u64 = PLAN_LIMIT as u64;
+/// A route takes nine bytes of its plan, and nobody relays one route twice.
+const MOST_RELAYED: u64 = PLAN_LIMIT as u64 / 9;
 
 const MOST_VALUES: u64 = VALUES_LIMIT as u64;
 
@@ -123,6 +125,23 @@ pub fn totals_or_refusal(answer: [u64; 4]) -> Option<Result<Totals, Refusal>> {
             }))
         }
         [REFUSED, whose, number, place] => Some(Err(of_site([whose, number, place], &[])?)),
+        _ => None,
+    }
+}
+
+/// The load on each relay. Which servers there are, and so whose counts have to be 0, cannot
+/// be seen from its words.
+pub fn load_or_refusal(answer: [u64; 9]) -> Option<Result<Load, Refusal>> {
+    match answer {
+        [ANSWERED, counts @ ..] => {
+            let mut routes = [0; 8];
+            for (relayed, count) in routes.iter_mut().zip(counts) {
+                *relayed = usize::try_from(count).ok()?;
+            }
+            let possible = counts.iter().all(|count| *count <= MOST_RELAYED);
+            possible.then_some(Ok(Load { routes }))
+        }
+        [REFUSED, refusal @ .., 0, 0, 0, 0, 0] => Some(Err(of_site(refusal, &[])?)),
         _ => None,
     }
 }
@@ -314,6 +333,20 @@ mod tests {
         assert_eq!(ran_or_refusal([2, 2, 13, 0]), Some(Err(FAULT_SET)));
     }
 
+    #[test]
+    fn words_of_a_load_become_the_answers_they_stand_for() {
+        for counts in [[0; 8], [12, 18, 12, 16, 30, 0, 0, 0], [116_508; 8]] {
+            let [a, b, c, d, e, f, g, h] = counts;
+            let routes = counts.map(|count| count as usize);
+            let answer = load_or_refusal([0, a, b, c, d, e, f, g, h]);
+            assert_eq!(answer, Some(Ok(Load { routes })));
+        }
+        for (refusal, expected) in [([0, 5, 87], OUT_OF_RANGE), ([1, 7, 4], NOT_DUE)] {
+            let answer = load_or_refusal(refused(refusal));
+            assert_eq!(answer, Some(Err(expected)));
+        }
+    }
+
     /// The words of a refusal: whose, number, place.
     fn refused<const N: usize>(refusal: [u64; 3]) -> [u64; N] {
         let mut answer = [0; N];
@@ -497,6 +530,25 @@ mod tests {
             [2, 1, 256, 4],
         ] {
             assert_eq!(totals_or_refusal(answer), None, "{answer:?}");
+        }
+    }
+
+    #[test]
+    fn words_that_are_no_answer_of_the_load_are_noticed() {
+        for answer in [
+            [UNWRITTEN; 9],
+            [0, 0, 0, 0, 0, 0, 0, 0, UNWRITTEN],
+            [0, 116_509, 0, 0, 0, 0, 0, 0, 0],
+            [1, 0, 0, 0, 0, 0, 0, 0, 0],
+            [2, 0, 6, 87, 0, 0, 0, 0, 0],
+            [2, 1, 6, 4, 0, 0, 0, 0, 0],
+            [2, 1, 7, 4, 1, 0, 0, 0, 0],
+            [2, 1, 7, 4, 0, 0, 0, 0, UNWRITTEN],
+            [2, 2, 12, 0, 0, 0, 0, 0, 0],
+            [2, 2, 13, 0, 0, 0, 0, 0, 0],
+            [2, 3, 7, 4, 0, 0, 0, 0, 0],
+        ] {
+            assert_eq!(load_or_refusal(answer), None, "{answer:?}");
         }
     }
 

@@ -1,7 +1,7 @@
 //! Safe functions over the proved agreement library, for networks of 2 to 8 servers of
 //! which at most 2 fail: the card reader, the card printed back, the split test, the quick
-//! test for two-way sites, the plan check, the run, and a server's own part in a live
-//! network.
+//! test for two-way sites, the plan check, the load on each relay, the run, and a server's
+//! own part in a live network.
 //!
 //! The library is written and proved in Rattle and linked as a static archive; its
 //! contracts, not this crate, say why the answers are right. What is done here is to
@@ -118,6 +118,26 @@ pub struct Quick {
 pub struct Totals {
     pub blocks: usize,
     pub carriages: usize,
+}
+
+/// How many routes of an accepted plan each server relays: stands on as neither source nor
+/// receiver.
+#[derive(Debug, Clone, Copy, PartialEq, Eq)]
+pub struct Load {
+    /// `routes[i]`: how many server `i` relays, 0 where there is no such server.
+    pub routes: [usize; 8],
+}
+
+impl Load {
+    /// How many routes `server` relays; one from 8 on relays none.
+    pub fn of(&self, server: u8) -> usize {
+        self.routes.get(usize::from(server)).copied().unwrap_or(0)
+    }
+
+    /// The relaying places over all routes: for each route, its servers less two.
+    pub fn total(&self) -> usize {
+        self.routes.iter().sum()
+    }
 }
 
 /// A version of the library.
@@ -291,6 +311,48 @@ pub fn check_plan(card: &[u8], plan: &[u8]) -> Result<Totals, Refusal> {
     })
 }
 
+/// Answers with how many routes of `plan` each server relays, or with the refusal of
+/// [`check_plan`], exactly where that refuses.
+///
+/// The counts add up to the relaying places of the plan's bytes: for each route of the
+/// commands 11, 12 and 13, its bytes before the fill less two. A member of an N tells k its
+/// value over a link, with no relay.
+///
+/// ```
+/// // Three offices in a row; what office 0 sends to office 2 goes over office 1.
+/// let card = [0x01, 3, 0, 0x02, 0, 1, 0x02, 1, 2, 0x03];
+/// let block = |a| {
+///     let straight = [0x13, 0, 1, 255, 255, 255, 255, 255, 255];
+///     let relayed = [0x13, 0, 1, 2, 255, 255, 255, 255, 255];
+///     [&[0x10, 0, a, 1][..], &straight, &relayed].concat()
+/// };
+/// let plan = [block(1), block(3), block(5), vec![0x15]].concat();
+/// let load = agreement::load(&card, &plan)?;
+/// assert_eq!((load.of(0), load.of(1), load.of(2)), (0, 3, 0));
+/// assert_eq!(load.total(), 3);
+/// # Ok::<(), agreement::Refusal>(())
+/// ```
+pub fn load(card: &[u8], plan: &[u8]) -> Result<Load, Refusal> {
+    let mut answer = [UNWRITTEN; 9];
+    // SAFETY: each pointer and length are those of one live slice, which is only
+    // read; an empty slice's pointer is not null either. `answer` is lent for the
+    // call alone and nothing else refers to it.
+    unsafe {
+        library::agreement_load(
+            card.as_ptr(),
+            card.len(),
+            plan.as_ptr(),
+            plan.len(),
+            &mut answer,
+        )
+    };
+    // A plan may be too long to be shown.
+    answers::load_or_refusal(answer).unwrap_or_else(|| {
+        let length = plan.len();
+        panic!("the load cannot be {answer:?} on {length} bytes for {card:02x?}")
+    })
+}
+
 /// Runs every block of `plan` and answers with its number of blocks and of
 /// carriages; `lent` then starts with one byte for each server: the bit that a sound
 /// server decided, 2 for a faulty one.
@@ -390,6 +452,7 @@ mod tests {
         assert_eq!(split_test(&[]), Err(card_cut(0)));
         assert_eq!(quick_test(&[]), Err(card_cut(0)));
         assert_eq!(check_plan(&[], &[]), Err(card_cut(0)));
+        assert_eq!(load(&[], &[]), Err(card_cut(0)));
     }
 
     /// A link from 2 to 1, then one from 0 to 2 twice, and the clean card of that.
@@ -510,6 +573,57 @@ mod tests {
         assert_eq!(check_plan(&P1, &P5), Ok(P5_TOTALS));
         assert_eq!(check_plan(&P1, &p6()), Err(of_plan(PlanGround::NotDue, 4)));
         assert_eq!(check_plan(&P1, &[]), Err(of_plan(PlanGround::Cut, 0)));
+    }
+
+    /// A ring of three servers, 0 to 1 to 2 and back to 0. In the plan for it server 0 relays a
+    /// route of 11 and one of 12, server 1 one of 12 and two of 13, server 2 one of 12.
+    const RING: [u8; 13] = [1, 3, 0, 2, 0, 1, 2, 1, 2, 2, 2, 0, 3];
+
+    fn ring_plan() -> Vec<u8> {
+        let route = |command: u8, servers: &[u8]| {
+            let fill = [0xff; 8];
+            [&[command], servers, &fill[servers.len()..]].concat()
+        };
+        let straight = |a| [vec![0x10, 0, a, 1], route(0x13, &[0, 1])].concat();
+        let last = [
+            vec![0x10, 0, 5, 7],
+            route(0x11, &[2, 0, 1]),
+            route(0x12, &[1, 2, 0]),
+            route(0x12, &[2, 0]),
+            route(0x12, &[0, 1]),
+            route(0x12, &[2, 0, 1]),
+            route(0x12, &[0, 1, 2]),
+            route(0x12, &[1, 2]),
+            vec![0x15],
+        ];
+        let two = route(0x13, &[0, 1, 2]);
+        [straight(1), two.clone(), straight(3), two, last.concat()].concat()
+    }
+
+    #[test]
+    fn small_loads() {
+        assert_eq!(load(&P1, &P5), Ok(Load { routes: [0; 8] }));
+        let relayed = load(&RING, &ring_plan()).expect("an accepted plan");
+        assert_eq!(relayed.routes, [2, 3, 1, 0, 0, 0, 0, 0]);
+        assert_eq!((0..=255).map(|server| relayed.of(server)).sum::<usize>(), 6);
+        assert_eq!(relayed.total(), 6);
+    }
+
+    #[test]
+    fn a_load_is_refused_as_the_plan_check_refuses() {
+        let plan = ring_plan();
+        for (card, plan) in [
+            (&[][..], &[][..]),
+            (&[], &plan),
+            (&RING, &plan[1..]),
+            (&RING, &plan[..plan.len() - 1]),
+            (&RING, &P5),
+            (&P1, &p6()),
+            (&P1, &plan),
+        ] {
+            let refusal = check_plan(card, plan).expect_err("refused");
+            assert_eq!(load(card, plan), Err(refusal));
+        }
     }
 
     #[test]

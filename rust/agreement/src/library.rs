@@ -35,6 +35,16 @@ extern "C" {
         answer: *mut [u64; 4],
     );
 
+    /// Writes {0, eight counts}, or {2, whose, number, place, 0, 0, 0, 0, 0} for a
+    /// refusal.
+    pub fn agreement_load(
+        card: *const u8,
+        card_length: usize,
+        plan: *const u8,
+        plan_length: usize,
+        answer: *mut [u64; 9],
+    );
+
     /// Writes {0, blocks, carriages, 0} and the first n lent bytes, or {2, whose,
     /// number, place} for a refusal and no lent byte.
     pub fn agreement_run(

@@ -10,8 +10,8 @@
 //! alike.
 //!
 //! Where `AGREEMENT_BEFORE` is the absolute path of an older libagreement.a, the same
-//! tables follow with that one in the reference's place, those of the quick test aside: an
-//! older archive need not have it.
+//! tables follow with that one in the reference's place, those of the quick test and of the
+//! load aside: an older archive need not have them.
 
 #![cfg_attr(not(before), forbid(unsafe_code))]
 #![cfg_attr(before, deny(unsafe_code))]
@@ -124,6 +124,16 @@ fn beside_reference(
             case.name,
             || agreement::check_plan(black_box(&case.card), black_box(&case.plan)),
             || reference::check_plan(black_box(&case.card), black_box(&case.plan)),
+        );
+    }
+    println!();
+    // Both check card and plan too: a plan that is refused takes what its check takes.
+    heading("load", "reference");
+    for case in plans.iter().filter(|case| case.is_accepted()) {
+        row(
+            case.name,
+            || agreement::load(black_box(&case.card), black_box(&case.plan)),
+            || reference::load(black_box(&case.card), black_box(&case.plan)),
         );
     }
     println!();

@@ -30,6 +30,12 @@ pub fn totals(answer: Result<agreement::Totals, agreement::Refusal>) -> Result<T
     Ok(Totals { blocks, carriages })
 }
 
+/// The load on each relay, as the eight counts.
+pub fn load(answer: Result<agreement::Load, agreement::Refusal>) -> Result<[usize; 8], Refusal> {
+    let agreement::Load { routes } = answer.map_err(refusal)?;
+    Ok(routes)
+}
+
 /// What the start or the commit of a server answers.
 pub fn stepped(answer: Result<agreement::State, agreement::Refusal>) -> Result<State, Refusal> {
     answer.map(state).map_err(refusal)

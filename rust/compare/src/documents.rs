@@ -23,6 +23,7 @@ mod held;
 mod lengths;
 mod library;
 mod limits;
+mod load;
 mod numbers;
 mod own_calls;
 mod own_part;
@@ -95,6 +96,8 @@ pub const LENGTHS: &[Check] = &[lengths::stated, clean::stated];
 pub const CASES: &[Check] = &[cases::stated, cases::proved, sets::split, quick::stated];
 /// What a run does.
 pub const RUNS: &[Check] = &[steps::stated, runs::stated];
+/// The load on each relay.
+pub const LOAD: &[Check] = &[load::stated];
 /// What a server does that knows only itself.
 pub const OWN_PART: &[Check] = &[own_part::stated];
 /// The words of the header's answers.
@@ -105,8 +108,8 @@ pub const PHRASES: &[Check] = &[phrases::stated, formulas::everywhere, formulas:
 /// All of them, those that take longest last.
 fn checks() -> Vec<Check> {
     [
-        PHRASES, LIMITS, BYTES, BLOCKS, LENGTHS, CASES, RUNS, OWN_PART, REFUSALS, NAMES, WORDS,
-        SITE, EXAMPLES,
+        PHRASES, LIMITS, BYTES, BLOCKS, LENGTHS, CASES, RUNS, LOAD, OWN_PART, REFUSALS, NAMES,
+        WORDS, SITE, EXAMPLES,
     ]
     .concat()
 }

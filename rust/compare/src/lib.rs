@@ -9,6 +9,9 @@
 //! decide one bit, and it is the input of one of them. This is looked at in every
 //! answered call, and [`runs::search`] tries hard to make it fail.
 //!
+//! Of a load, the counts have to add up to the relaying places of the plan's bytes, and the
+//! plan check has to refuse the same plans.
+//!
 //! A server's own part is compared call by call, and the library has to be one with itself:
 //! servers stepped side by side, each on its own, end with what the run decides.
 //!
@@ -30,6 +33,7 @@ pub mod cards;
 pub mod converted;
 pub mod documents;
 mod lent;
+pub mod loads;
 mod planned;
 pub mod plans;
 pub mod prints;

@@ -1,9 +1,11 @@
-//! The plan check.
+//! The plan check, and the plans on which whatever takes a card and a plan is compared.
 
+mod compared;
 mod given;
 mod loops;
 mod tally;
 
+pub use compared::Compared;
 pub use given::given_plans;
 pub use loops::{
     any_cards, around_the_limit, broken_off_plans, damaged_plans, every_byte, every_neighbours,
@@ -12,4 +14,5 @@ pub use loops::{
 };
 pub use tally::{Damages, Tally};
 
+pub(crate) use compared::held;
 pub(crate) use given::PLANS;

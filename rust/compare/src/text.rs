@@ -9,7 +9,7 @@ pub(crate) fn cases(file: &'static str) -> impl Iterator<Item = Vec<&'static str
 }
 
 /// An answer that is no refusal, in the plain form of the data files.
-pub(crate) trait Plain {
+pub trait Plain {
     fn plain(&self) -> String;
 }
 

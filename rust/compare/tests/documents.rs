@@ -69,6 +69,11 @@ fn runs_go_as_stated() {
 }
 
 #[test]
+fn the_load_is_as_stated() {
+    hold(documents::LOAD);
+}
+
+#[test]
 fn a_server_s_own_part_goes_as_stated() {
     documents::library_refuses_servers_in_order();
     hold(documents::OWN_PART);

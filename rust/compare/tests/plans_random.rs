@@ -18,7 +18,7 @@ fn assert_refusals(tally: &Tally, numbers: &[usize], times: usize) {
 fn damaged_plans(sizes: &[(u8, u8, u64)], times: usize) -> (Tally, Damages) {
     let (mut tally, mut damages) = (Tally::default(), Damages::default());
     for &(n, f, seeds) in sizes {
-        let (more, more_damages) = plans::damaged_plans(n, f, 0..seeds, times);
+        let (more, more_damages): (Tally, Damages) = plans::damaged_plans(n, f, 0..seeds, times);
         println!("n {n} f {f}: {more}");
         tally.add(&more);
         damages.add(&more_damages);
@@ -64,7 +64,7 @@ fn damaged_plans_for_two_faults() {
 
 #[test]
 fn plans_that_break_off_where_the_network_does() {
-    let tally = plans::broken_off_plans(0..4_800, 8);
+    let tally: Tally = plans::broken_off_plans(0..4_800, 8);
     println!("broken off: {tally}");
     assert!(tally.accepted >= 1_000);
     assert_refusals(&tally, &OF_A_PLAN, 300);
@@ -72,14 +72,14 @@ fn plans_that_break_off_where_the_network_does() {
 
 #[test]
 fn plans_with_the_card_of_another_network() {
-    let tally = plans::other_cards(0..3_000);
+    let tally: Tally = plans::other_cards(0..3_000);
     println!("other cards: {tally}");
     assert_refusals(&tally, &[7, 9], 1_000);
 }
 
 #[test]
 fn plans_with_twin_cables() {
-    let tally = plans::twin_cables(0..1_200, 20);
+    let tally: Tally = plans::twin_cables(0..1_200, 20);
     println!("twin cables: {tally}");
     assert_eq!(tally.plans(), 2 * 1_200 * 21);
     assert!(tally.accepted >= 2_400);
@@ -89,7 +89,7 @@ fn plans_with_twin_cables() {
 
 #[test]
 fn any_cards_with_any_plans() {
-    let tally = plans::any_cards(0..5_000);
+    let tally: Tally = plans::any_cards(0..5_000);
     println!("any cards: {tally}");
     for (number, &count) in tally.card_refused.iter().enumerate().skip(1) {
         assert!(count >= 500, "refusal {number} was met {count} times");
@@ -99,7 +99,7 @@ fn any_cards_with_any_plans() {
 
 #[test]
 fn random_bytes_as_plans() {
-    let tally = plans::plan_like_bytes(0..1_000, 50);
+    let tally: Tally = plans::plan_like_bytes(0..1_000, 50);
     println!("random bytes: {tally}");
     assert_eq!(tally.plans(), 50_000);
     assert_refusals(&tally, &[2, 3, 7, 8, 9, 11], 100);
@@ -108,7 +108,7 @@ fn random_bytes_as_plans() {
 #[test]
 fn truncated_plans() {
     for (n, f) in [(2, 0), (3, 0), (4, 0), (5, 0), (4, 1), (5, 1)] {
-        let tally = plans::truncations(n, f, 0..5);
+        let tally: Tally = plans::truncations(n, f, 0..5);
         println!("truncated, n {n} f {f}: {tally}");
         // Each plan is whole only once, and cut off before that.
         assert_eq!(tally.accepted, 5);
@@ -131,13 +131,13 @@ fn every_byte_of_short_plans() {
 #[test]
 fn every_opening_and_every_neighbour_set() {
     for (n, f) in [(3, 0), (4, 0), (4, 1), (5, 1)] {
-        let tally = plans::every_opening(n, f, 2);
+        let tally: Tally = plans::every_opening(n, f, 2);
         println!("every opening, n {n} f {f}: {tally}");
         assert!(tally.accepted >= 2);
         assert_refusals(&tally, &[7, 8], 500);
     }
     for n in [4, 5] {
-        let tally = plans::every_neighbours(n, 1, 2);
+        let tally: Tally = plans::every_neighbours(n, 1, 2);
         println!("every neighbour set, n {n} f 1: {tally}");
         // k is fixed, and N may be any two servers with a link to it.
         assert!((2..=2 * 6).contains(&tally.accepted));
@@ -149,7 +149,7 @@ fn every_opening_and_every_neighbour_set() {
 fn every_short_route() {
     let mut tally = Tally::default();
     for (n, f, routes) in [(3, 0, 9), (4, 0, 6), (4, 1, 16), (5, 1, 1)] {
-        let more = plans::every_short_route(n, f, routes);
+        let more: Tally = plans::every_short_route(n, f, routes);
         println!("every short route, n {n} f {f}: {more}");
         tally.add(&more);
     }
@@ -159,11 +159,11 @@ fn every_short_route() {
 
 #[test]
 fn plans_around_the_limit() {
-    let within = plans::around_the_limit(&[PLAN_LIMIT - 1, PLAN_LIMIT]);
+    let within: Tally = plans::around_the_limit(&[PLAN_LIMIT - 1, PLAN_LIMIT]);
     println!("within the limit: {within}");
     assert_eq!(within.plan_refused[1], 0);
     assert_refusals(&within, &[2, 3, 7, 9], 4);
-    let beyond = plans::around_the_limit(&[PLAN_LIMIT + 1, PLAN_LIMIT + 2, 2 * PLAN_LIMIT]);
+    let beyond: Tally = plans::around_the_limit(&[PLAN_LIMIT + 1, PLAN_LIMIT + 2, 2 * PLAN_LIMIT]);
     println!("beyond the limit: {beyond}");
     // Too long are all of them, but a card's refusal comes first.
     let of_cards: usize = beyond.card_refused.iter().sum();

@@ -102,6 +102,29 @@ pub fn good_card(rng: &mut Rng, n: u8, f: u8) -> Option<Vec<u8>> {
     }
 }
 
+/// A valid card of `n` servers without faults whose network has no bad split, and hardly more
+/// links than that takes: one to each server but the first of a random order, mostly from the
+/// server before it, and up to three others. So most routes of a plan have relays, and some
+/// may go through all servers.
+pub fn sparse_card(rng: &mut Rng, n: u8) -> Vec<u8> {
+    let mut servers: Vec<u8> = (0..n).collect();
+    rng.shuffle(&mut servers);
+    let mut links = Vec::new();
+    for place in 1..servers.len() {
+        let before = match rng.below(4) {
+            0 => rng.below(place),
+            _ => place - 1,
+        };
+        links.push((servers[before], servers[place]));
+    }
+    let mut others = all_links(n);
+    others.retain(|link| !links.contains(link));
+    rng.shuffle(&mut others);
+    others.truncate(rng.below(4));
+    links.extend(others);
+    card_of(n, 0, &links)
+}
+
 /// The card of `n` servers and `f` faults with every link there can be.
 pub fn complete_card(n: u8, f: u8) -> Vec<u8> {
     card_of(n, f, &all_links(n))
@@ -472,6 +495,23 @@ mod tests {
                 let some_may_lack = n > 3 * f && (n, f) != (4, 1);
                 assert_eq!(fewest < all, some_may_lack, "n {n} f {f}: {fewest}");
             }
+        }
+    }
+
+    #[test]
+    fn sparse_cards_are_good_with_few_links() {
+        let mut rng = Rng::new(10);
+        for n in 2..=8u8 {
+            let least = usize::from(n) - 1;
+            let mut counts = [0; 4];
+            for _ in 0..100 {
+                let card = sparse_card(&mut rng, n);
+                assert_eq!(split_test(&card), Ok(None), "{card:02x?}");
+                counts[link_count(&card) - least] += 1;
+            }
+            // Two servers have one link more to give.
+            let may_have = if n == 2 { 2 } else { 4 };
+            assert!(counts[..may_have].iter().all(|&count| count > 5), "n {n}");
         }
     }
 

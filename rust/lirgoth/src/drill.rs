@@ -1,10 +1,11 @@
 //! Drills: runs without a run.in, with offices that fail and lie as they are told.
 
 use crate::answer::{Answer, REFUSED};
-use crate::explain::{shown, why_split};
+use crate::explain::shown;
 use crate::lies::{self, first_half, Lies};
 use crate::names::Names;
 use crate::plan::{self, Block};
+use crate::planned::{self, Planned};
 use crate::refused;
 use crate::site::{Run, Site, Unreadable};
 use crate::words::{self, counted};
@@ -23,35 +24,25 @@ pub struct Drilled {
 
 /// The site ready for a drill, or the answer that says why it is not.
 pub fn open(site: &Site) -> Result<Result<Drilled, Answer>, Unreadable> {
-    let card = site.card()?;
-    let refuse = |words: String| {
-        let mut answer = Answer::default();
-        answer.line(words.trim_end());
-        Ok(Err(answer.refused()))
+    let (planned, _) = match planned::open(site, agreement::check_plan)? {
+        Ok(opened) => opened,
+        Err(refused) => return Ok(Err(refused)),
     };
-    let network = match agreement::read_card(&card) {
-        Ok(network) => network,
-        Err(refusal) => return refuse(refused::card(refusal, &card)),
-    };
-    let (names, note) = site.names(&network);
-    // No plan is worth looking for where none can help.
-    match agreement::split_test(&card) {
-        Ok(None) => {}
-        Ok(Some(split)) => return refuse(why_split(&network, &names, split)),
-        Err(refusal) => return refuse(refused::card(refusal, &card)),
-    }
-    let plan = site.plan()?;
-    if let Err(refusal) = agreement::check_plan(&card, &plan) {
-        return refuse(refused::plan(refusal, &network, &names, &plan));
-    }
-    let blocks = plan::blocks(&network, &plan);
+    let blocks = plan::blocks(&planned.network, &planned.plan);
+    let Planned {
+        network,
+        names,
+        card,
+        plan,
+        notes,
+    } = planned;
     Ok(Ok(Drilled {
         network,
         names,
         card,
         plan,
         blocks,
-        notes: note.into_iter().collect(),
+        notes,
     }))
 }
 

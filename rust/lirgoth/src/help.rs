@@ -8,6 +8,7 @@ lirgoth: a site's network, its plan and its drills, for the installer
   lirgoth print SITE [--hex]                 the card, clean: each link once, in order
   lirgoth explain SITE                       can the offices agree, is the plan accepted,
                                              what does each office show
+  lirgoth load SITE                          how many routes each office relays
   lirgoth drill SITE --inputs 11010          a run without a run.in
   lirgoth drill SITE --every                 every set of failing offices, every kind of lie
   lirgoth picture SITE                       the network as an SVG picture
@@ -76,6 +77,15 @@ away before the rest falls apart. Both numbers are told, with the offices that l
 rest apart. The rule holds exactly where there is no bad split.
 ";
 
+pub const LOAD: &str = "\
+lirgoth load SITE
+
+Says how many routes of SITE/network.plan each office relays, that is, stands on as neither
+source nor receiver, and which part of all relaying places that is: a line for each office,
+the widest relay first. Each office that relays a route is one relaying place. Refusals, and
+a bad split, are told as by explain.
+";
+
 pub const DRILL: &str = "\
 lirgoth drill SITE --inputs BITS [--faulty OFFICES] [--lies LIES] [--write]
 lirgoth drill SITE --every [--inputs BITS] [--lies random:SEED]
@@ -105,4 +115,7 @@ a ring, one-way links as arrows, two-way links as plain lines. Where the network
 split its sets are coloured and explained, and the status is 1. On a two-way site that has
 none, offices that leave the rest apart when they are taken away are coloured and have the
 letter K: as few as can be, and none where all links are there.
+
+Where SITE/network.plan is accepted, an office is the larger the more routes it relays, and
+their number stands beside it.
 ";

@@ -1,5 +1,5 @@
 //! The installer's program: a site's chart, card and picture, its network and plan in
-//! words, and drills.
+//! words, the load on its relays, and drills.
 //!
 //! ```text
 //! cargo run --release -p lirgoth -- --help
@@ -15,9 +15,11 @@ mod drill;
 mod explain;
 mod help;
 mod lies;
+mod load;
 mod names;
 mod picture;
 mod plan;
+mod planned;
 mod progress;
 mod refused;
 mod site;

@@ -6,13 +6,14 @@
 //! page by `layout`, each thing as one of `shapes`. Last, `draw` chooses colours and strokes and
 //! writes the elements. `text` knows how wide a text is, where it breaks and how XML writes it.
 //!
-//! A picture of something else starts from other content: the radius of each circle and the set
-//! that colours it are part of it, and all places follow from them.
+//! A picture of something else starts from other content: the radius of each circle, which `relays`
+//! takes from the load, and the set that colours it are part of it, and all places follow from them.
 
 mod draw;
 mod layout;
 mod legend;
 mod links;
+mod relays;
 mod ring;
 mod shapes;
 #[cfg(test)]
@@ -22,17 +23,17 @@ mod words;
 
 use crate::apart::Apart;
 use crate::names::Names;
-use agreement::{Network, ServerSet, Split};
+use agreement::{Load, Network, ServerSet, Split};
 use legend::Entry;
 use links::Link;
 
 /// An SVG file that shows `network`: its offices in a ring, its links, in words whether the offices
-/// can agree, and what there is to be marked.
+/// can agree, what there is to be marked, and the load that an accepted plan puts on each relay.
 ///
 /// The text is the same for the same arguments on every machine. A name with characters that XML
 /// cannot hold is drawn with replacement characters.
-pub fn svg(network: &Network, names: &Names, mark: Option<Mark>) -> String {
-    let content = content(network, names, mark);
+pub fn svg(network: &Network, names: &Names, mark: Option<Mark>, load: Option<Load>) -> String {
+    let content = content(network, names, mark, load);
     draw::document(&content, &layout::page(&content))
 }
 
@@ -59,6 +60,8 @@ struct Content {
 /// An office, the one of its place in the list.
 struct Office {
     name: Option<String>,
+    /// How many routes it relays, where that is shown.
+    relayed: Option<usize>,
     part: Option<Part>,
     /// Radius of its circle.
     radius: f64,
@@ -107,7 +110,7 @@ impl Part {
     }
 }
 
-fn content(network: &Network, names: &Names, mark: Option<Mark>) -> Content {
+fn content(network: &Network, names: &Names, mark: Option<Mark>, load: Option<Load>) -> Content {
     let clean: Vec<Option<String>> = (0..network.n)
         .map(|office| names.name(office).and_then(text::clean))
         .collect();
@@ -116,17 +119,28 @@ fn content(network: &Network, names: &Names, mark: Option<Mark>) -> Content {
     let verdict = words::verdict(network, matches!(mark, Some(Mark::Split(_))));
     let links = links::of(network, mark);
     let why = mark.map_or(Vec::new(), |mark| legend::of_mark(network, &names, &mark));
+    // Numbers that are all 0 say no more than the legend does.
+    let counts = load.filter(|load| load.total() > 0);
+    let radii = load.map_or([ring::RADIUS; 8], |load| relays::radii(&load));
     let office = |(office, name)| Office {
         name,
+        relayed: counts.map(|load| load.of(office)),
         part: mark.and_then(|mark| Part::of(office, &mark)),
-        radius: ring::RADIUS,
+        radius: radii[usize::from(office)],
     };
+    let relays = load.map(|load| legend::of_load(&load));
+    let mut description = words::description(network, &names, &verdict, &links, &why);
+    description.extend(load.map(|load| words::of_load(network, &names, &load)));
     Content {
         title: words::title(network),
-        description: words::description(network, &names, &verdict, &links, &why),
+        description,
         verdict,
         offices: (0..).zip(clean).map(office).collect(),
-        legend: legend::of_links(&links).into_iter().chain(why).collect(),
+        legend: legend::of_links(&links)
+            .into_iter()
+            .chain(relays)
+            .chain(why)
+            .collect(),
         links,
     }
 }

@@ -9,11 +9,12 @@ use crate::drill::{self, all_inputs, Drilled};
 use crate::explain;
 use crate::help;
 use crate::lies::Lies;
+use crate::load;
 use crate::picture::{self, Mark};
 use crate::progress::Progress;
 use crate::refused;
-use crate::site::{self, Site, Unreadable, CARD, CHART, RUN};
-use agreement::{Network, Refusal, ServerSet, CLEAN_CARD_LIMIT};
+use crate::site::{self, Site, Unreadable, CARD, CHART, PLAN, RUN};
+use agreement::{Load, Network, Refusal, ServerSet, CLEAN_CARD_LIMIT};
 use std::fs;
 use std::io::{self, IsTerminal};
 use std::path::Path;
@@ -29,7 +30,7 @@ pub fn find(name: &str) -> Option<&'static Verb> {
     VERBS.iter().find(|verb| verb.name == name)
 }
 
-const VERBS: [Verb; 9] = [
+const VERBS: [Verb; 10] = [
     Verb {
         name: "card",
         help: help::CARD,
@@ -53,6 +54,12 @@ const VERBS: [Verb; 9] = [
         help: help::EXPLAIN,
         known: &[],
         run: |args| on_site(args, |site| explain::explain(&site)),
+    },
+    Verb {
+        name: "load",
+        help: help::LOAD,
+        known: &[],
+        run: |args| on_site(args, |site| load::load(&site)),
     },
     Verb {
         name: "drill",
@@ -240,13 +247,40 @@ fn picture_of(site: Site) -> Result<Answer, Unreadable> {
         None if agreement::quick_test(&card).is_ok() => apart(&network).map(Mark::Apart),
         None => None,
     };
+    // No plan is worth looking at where none can help.
+    let (load, refused) = match split {
+        Some(_) => (None, None),
+        None => load_of(&site, &card),
+    };
     let (names, note) = site.names(&network);
-    let mut answer = Answer::of(picture::svg(&network, &names, mark));
-    answer.notes.extend(note);
+    let mut answer = Answer::of(picture::svg(&network, &names, mark, load));
+    answer.notes.extend(note.into_iter().chain(refused));
     Ok(match split {
         Some(_) => answer.refused(),
         None => answer,
     })
+}
+
+/// The load on each relay, if the site has an accepted plan, and what is to be said where it has
+/// another.
+fn load_of(site: &Site, card: &[u8]) -> (Option<Load>, Option<String>) {
+    if !site.path(PLAN).exists() {
+        return (None, None);
+    }
+    let without = |why: String| {
+        let why = format!("{why}; the offices are drawn without their load");
+        (None, Some(why))
+    };
+    match site.plan() {
+        Ok(plan) => match agreement::load(card, &plan) {
+            Ok(load) => (Some(load), None),
+            Err(_) => without(format!(
+                "{} is refused, and `lirgoth explain` says why",
+                site.path(PLAN).display()
+            )),
+        },
+        Err(Unreadable(why)) => without(why),
+    }
 }
 
 fn drill(args: &Args) -> Result<Answer, String> {

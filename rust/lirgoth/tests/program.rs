@@ -286,6 +286,12 @@ fn the_installers_way_of_the_readme() {
     out(&["card", &chart, "--site", &site], ANSWERED);
     let plan = example("dry-bulk") + "/network.plan";
     fs::copy(plan, folder.path("desk/network.plan")).expect("the folder can be written to");
+    let load = out(&["load", &site], ANSWERED);
+    let load: String = load
+        .lines()
+        .map(|line| format!("       {line}\n"))
+        .collect();
+    assert!(readme.contains(&load), "{load}");
     let drill = [
         "drill", &site, "--faulty", "Lima", "--inputs", "11010", "--lies", "split", "--write",
     ];
@@ -327,6 +333,12 @@ fn the_example_sites_in_words() {
         assert_eq!(
             out(&["explain", &folder], status),
             expected.expect("stored words"),
+            "{site}"
+        );
+        let expected = fs::read_to_string(format!("{folder}/expected/load.txt"));
+        assert_eq!(
+            out(&["load", &folder], status),
+            expected.expect("a stored load"),
             "{site}"
         );
         let expected = fs::read_to_string(format!("{folder}/expected/picture.svg"));
@@ -391,6 +403,95 @@ fn the_picture_of_shore_marks_the_offices_to_take_away() {
     let picture = out(&["picture", &example("shore")], ANSWERED);
     // One letter in the legend.
     assert_eq!(marked(&picture), 3 + 1);
+}
+
+/// How many routes the program says that each of `n` offices relays, by their numbers.
+fn told_loads(loads: &str, n: u8) -> Vec<usize> {
+    let relays = |office: u8| {
+        let start = format!("office {office} ");
+        let line = loads.lines().find(|line| line.starts_with(&start));
+        let (_, after) = line
+            .and_then(|line| line.split_once(" relays "))
+            .expect("a line");
+        let number = after.split(' ').next().unwrap_or_default().replace(',', "");
+        number.parse().expect("a number")
+    };
+    (0..n).map(relays).collect()
+}
+
+#[test]
+fn the_load_of_every_office_is_told_the_widest_relay_first() {
+    let mut rng = Rng::new(5);
+    for (n, f) in [(2, 0), (3, 0), (5, 0), (8, 0), (4, 1), (6, 1), (7, 2)] {
+        let card = generate::good_card(&mut rng, n, f).expect("n is over 3f");
+        let plan = generate::plan(&mut rng, &card).expect("a good network has a plan");
+        let site = Folder::with(&[("network.card", &card), ("network.plan", &plan)]);
+        let told = out(&["load", &site.shown("")], ANSWERED);
+        let loads = told_loads(&told, n);
+        let load = agreement::load(&card, &plan).expect("an accepted plan");
+        assert_eq!(loads, load.routes[..usize::from(n)], "{told}");
+        // A line for them all, and then one for each, the widest first.
+        let lines: Vec<&str> = told.lines().collect();
+        assert_eq!(lines.len(), 1 + usize::from(n), "{told}");
+        let office = |line: &&str| -> usize { line[7..8].parse().expect("a number") };
+        let offices: Vec<usize> = lines[1..].iter().map(office).collect();
+        let before = |pair: &[usize]| {
+            let [one, next] = [pair[0], pair[1]].map(|office| (loads[office], office));
+            one.0 > next.0 || one.0 == next.0 && one.1 < next.1
+        };
+        assert!(offices.windows(2).all(before), "{told}");
+    }
+}
+
+#[test]
+fn a_site_without_an_accepted_plan_has_no_load() {
+    let site = copy_of("dry-bulk");
+    let own = site.0.display().to_string();
+    let plan = fs::read(site.path("network.plan")).expect("it was written");
+    fs::write(site.path("network.plan"), &plan[..plan.len() - 1]).expect("it can be written");
+    // As `explain` tells it, but alone.
+    let explained = out(&["explain", &own], REFUSED);
+    let refused = explained.lines().last().expect("a refusal in words");
+    assert!(refused.starts_with("refused plan 2 at byte "), "{refused}");
+    assert_eq!(out(&["load", &own], REFUSED), format!("{refused}\n"));
+    fs::remove_file(site.path("network.plan")).expect("it is there");
+    let (printed, missing) = said(&["load", &own], UNUSABLE);
+    let expected = format!("lirgoth: {own}/network.plan is missing\n");
+    assert_eq!((printed, missing), (String::new(), expected));
+}
+
+#[test]
+fn the_picture_shows_the_load_of_an_accepted_plan_alone() {
+    let site = copy_of("dry-bulk");
+    let own = site.0.display().to_string();
+    let plan = fs::read(site.path("network.plan")).expect("it was written");
+    let with_load = out(&["picture", &own], ANSWERED);
+    let load = agreement::load(
+        &fs::read(site.path("network.card")).expect("it was written"),
+        &plan,
+    );
+    for (office, routes) in (0..5).zip(load.expect("an accepted plan").routes) {
+        let beside = format!(">relays {routes}</text>");
+        assert!(with_load.contains(&beside), "office {office}: {with_load}");
+    }
+    // Without a plan nothing is said; with one that is refused the picture is the same, and
+    // what is wrong is said beside it.
+    fs::remove_file(site.path("network.plan")).expect("it is there");
+    let (without, note) = said(&["picture", &own], ANSWERED);
+    assert!(!without.contains("relays") && note.is_empty(), "{note}");
+    fs::write(site.path("network.plan"), &plan[1..]).expect("the folder can be written to");
+    let (refused, note) = said(&["picture", &own], ANSWERED);
+    assert_eq!(refused, without);
+    let expected = format!(
+        "lirgoth: {own}/network.plan is refused, and `lirgoth explain` says why; \
+         the offices are drawn without their load\n"
+    );
+    assert_eq!(note, expected);
+    // A plan is not looked at where none can help.
+    let regions = fs::read(example("two-regions") + "/network.card").expect("it is there");
+    let site = Folder::with(&[("network.card", &regions), ("network.plan", &plan)]);
+    let (_, note) = said(&["picture", &site.shown("")], REFUSED);
+    assert_eq!(note, "");
 }
 
 /// What `explain` says of a card alone, and the picture of it.
@@ -719,7 +820,7 @@ fn a_refused_call_is_told_in_words() {
 fn files_that_cannot_be_read_are_named() {
     let folder = Folder::new();
     let own = folder.0.display().to_string();
-    for verb in ["explain", "chart", "print", "picture"] {
+    for verb in ["explain", "chart", "print", "load", "picture"] {
         let (_, error) = said(&[verb, &own], UNUSABLE);
         assert_eq!(error, format!("lirgoth: {own}/network.card is missing\n"));
         let nowhere = folder.shown("nowhere");
@@ -751,6 +852,7 @@ fn a_refused_card_is_told_by_every_verb() {
         &["explain", &own][..],
         &["chart", &own],
         &["print", &own],
+        &["load", &own],
         &["picture", &own],
         &["drill", &own, "--every"],
     ] {
@@ -776,7 +878,9 @@ fn a_chart_of_another_network_gives_no_names() {
 #[test]
 fn help_and_bad_usage() {
     let help = out(&["--help"], ANSWERED);
-    for verb in ["card", "chart", "print", "explain", "drill", "picture"] {
+    for verb in [
+        "card", "chart", "print", "explain", "load", "drill", "picture",
+    ] {
         assert!(help.contains(&format!("  lirgoth {verb} ")), "{verb}");
         let own = out(&[verb, "--help"], ANSWERED);
         assert!(own.starts_with(&format!("lirgoth {verb} ")), "{own}");

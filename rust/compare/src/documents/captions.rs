@@ -2,7 +2,7 @@
 
 use super::examples::{bytes, examples, Example};
 use super::library::*;
-use super::numbers::{listed, members, ordinal, quoted, word};
+use super::numbers::{capital, listed, members, ordinal, quoted, word};
 use super::own_calls::{Call, What};
 use super::page::{Held, Page};
 use super::plans::{plan, shortest, MORE_THAN_F};
@@ -25,6 +25,7 @@ pub fn stated(documents: &Documents) -> Held {
         "Carriages, and what the plan check answers",
         carriages,
     )?;
+    hold(page, "The load on each relay", load)?;
     hold(page, "A server's own part", own_part)?;
     let captions: [(u8, Caption); 9] = [
         (CardGround::Range.number(), out_of_range),
@@ -128,6 +129,41 @@ fn carriages(examples: &[Example]) -> Option<Vec<String>> {
     Some(vec![format!(
         "In this plan A is {a} and S is {s}, so that {due} are due:"
     )])
+}
+
+/// A row of servers, in which the first is the S of every block.
+fn load(examples: &[Example]) -> Option<Vec<String>> {
+    let [example] = examples else { return None };
+    let Files { card, plan, .. } = &example.files;
+    let network = read_card(card).ok()?;
+    let in_a_row =
+        (0..network.n).all(|u| (0..network.n).all(|v| network.linked(u, v) == (v == u + 1)));
+    let openings = places(plan, &[BLOCK]);
+    let s = ServerSet::from_bits(*plan.get(openings.first()? + 3)?);
+    let same = openings.iter().all(|place| plan[place + 3] == s.bits());
+    // Each block has one route with a relay, the same in all of them.
+    let routes = places(plan, &[FROM_S]).into_iter();
+    let relayed: Vec<&[u8]> = routes
+        .map(|place| &plan[place + 1..place + 5])
+        .filter(|operand| operand[2] != FILL)
+        .collect();
+    let [source, relay, receiver, FILL] = *relayed.first()? else {
+        return None;
+    };
+    let counts = agreement::load(card, plan).ok()?;
+    let holds = in_a_row
+        && same
+        && relayed.iter().all(|route| route == &relayed[0])
+        && counts.of(*relay) == openings.len()
+        && counts.total() == openings.len();
+    let (servers, f) = (capital(word(usize::from(network.n))), network.f);
+    let (blocks, s) = (word(openings.len()), members(s));
+    holds.then(|| {
+        vec![format!(
+            "{servers} servers in a row, f {f}. In each of the {blocks} blocks S is {s}, and the \
+             route from {source} to {receiver} goes over {relay}:"
+        )]
+    })
 }
 
 fn out_of_range(examples: &[Example]) -> Option<Vec<String>> {

@@ -1,6 +1,7 @@
 //! The examples of docs/FORMATS.md: the bytes of the files, and then what is printed.
 
 use super::grounds::{self, File};
+use super::load;
 use super::numbers::number;
 use super::own_calls::{self, Call};
 use super::page::{Held, Page};
@@ -32,6 +33,7 @@ enum Asked {
     /// The library's run, with so many bytes lent.
     Run(usize),
     QuickTest,
+    Load,
     /// A call for a single server.
     Own(Call),
 }
@@ -66,6 +68,7 @@ fn example(page: &Page, lines: Range<usize>) -> Result<Example, String> {
             "run.in" => files.run_in = bytes(rest).map_err(fault)?,
             "buffer" => *asked = Asked::Run(number(rest).ok_or_else(|| fault(no_count(rest)))?),
             "quick" if rest == "test" => *asked = Asked::QuickTest,
+            "load" if rest.is_empty() => *asked = Asked::Load,
             "state" => *state = own_calls::state(rest).map_err(fault)?,
             "start" | "ask" | "commit" => {
                 *asked = Asked::Own(own_calls::call(first, rest).map_err(fault)?);
@@ -119,6 +122,7 @@ impl Example {
             Asked::Rehearse => rehearsed(&self.files),
             Asked::Run(lent) => ran(&self.files, *lent),
             Asked::QuickTest => quick::answered(&self.files.card),
+            Asked::Load => load::answered(&self.files),
             Asked::Own(call) => own_calls::answered(&self.files, self.state, call),
         };
         text.lines().map(str::to_string).collect()

@@ -15,12 +15,13 @@ use agreement::CallGround;
 /// What the wrapper declares, and calls.
 const DECLARED: &str = include_str!("../../../agreement/src/library.rs");
 
-const FUNCTIONS: [&str; 9] = [
+const FUNCTIONS: [&str; 10] = [
     "agreement_read_card",
     "agreement_print_card",
     "agreement_split_test",
     "agreement_quick_test",
     "agreement_check_plan",
+    "agreement_load",
     "agreement_run",
     "agreement_start",
     "agreement_ask",
@@ -69,7 +70,7 @@ fn same_words(page: &Page, function: &str, ours: &str, theirs: &str) -> Result<u
 
 pub fn stated(documents: &Documents) -> Held {
     let page = &documents.header;
-    let [reader, _, split, _, check, _, start, ask, _] = lengths(page)?;
+    let [reader, _, split, _, check, load, _, start, ask, _] = lengths(page)?;
     let state = state_length(page)?;
     let of = |which: &str| name(page, which).map(|name| name.value);
     let answered = of("AGREEMENT_ANSWERED")?;
@@ -77,9 +78,12 @@ pub fn stated(documents: &Documents) -> Held {
     let buffer = CallGround::Buffer.number();
     let servers = usize::from(SIZES.n.most());
     let (eight, before_rows) = (word(servers), reader - servers);
+    let before_counts = load - servers;
+    // A refusal has four words, as that of the plan check.
+    let not_of_refusal = word(load - check);
     let zeros = vec!["0"; split - 1].join(", ");
     page.says_all(&[
-        format!("`answer` points to {check}, {split}, {start}, {ask} or {reader} words"),
+        format!("`answer` points to {check}, {split}, {start}, {ask}, {load} or {reader} words"),
         format!("`state` points to {state} words, which it only reads."),
         "a call's refusal has place 0.".to_string(),
         format!("answer: {answered}, n, f, 0 and {eight} rows."),
@@ -96,6 +100,11 @@ pub fn stated(documents: &Documents) -> Held {
         format!("or {refused}, AGREEMENT_CARD, number, place, 0."),
         format!("answer: {answered}, blocks, carriages, 0 exactly if it does;"),
         format!("or {refused}, AGREEMENT_CARD or AGREEMENT_PLAN, number, place."),
+        format!("answer: {answered} and {eight} counts. The word answer[{before_counts} + i] is the number of"),
+        "and it is 0 where i is no server.".to_string(),
+        format!(
+            "Or answer: {refused}, AGREEMENT_CARD or AGREEMENT_PLAN, number, place and {not_of_refusal} zeros:"
+        ),
         format!("answer: {answered}, blocks, carriages, 0. Then the first n bytes of `lent`"),
         format!("are the decided bits, {FAULTY} for a faulty server"),
         format!("Or answer: {refused}, what is at fault, number, place."),

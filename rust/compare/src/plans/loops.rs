@@ -1,6 +1,7 @@
 //! The plans on which library and reference are compared.
 
-use super::tally::{Damages, Tally};
+use super::compared::Compared;
+use super::tally::Damages;
 use crate::planned::{planned, SMALL};
 use crate::repeated;
 use generate::{
@@ -35,8 +36,8 @@ fn short_plan(n: u8, f: u8) -> (Vec<u8>, Vec<u8>) {
 /// that plan `times` times in every way of damage, and once more with two damages.
 ///
 /// Panics if the sound plan is not accepted.
-pub fn damaged_plans(n: u8, f: u8, seeds: Range<u64>, times: usize) -> (Tally, Damages) {
-    let (mut tally, mut damages) = (Tally::default(), Damages::default());
+pub fn damaged_plans<T: Compared>(n: u8, f: u8, seeds: Range<u64>, times: usize) -> (T, Damages) {
+    let (mut tally, mut damages) = (T::default(), Damages::default());
     for seed in seeds {
         let mut rng = Rng::new(seed);
         let (card, plan) = planned(&mut rng, n, f);
@@ -49,7 +50,8 @@ pub fn damaged_plans(n: u8, f: u8, seeds: Range<u64>, times: usize) -> (Tally, D
                     continue;
                 };
                 let made_by = format_args!("damage, n {n} f {f} seed {seed}, {name}");
-                damages.count(index, tally.compare(&card, &damaged, made_by));
+                let answer = tally.compare(&card, &damaged, made_by);
+                damages.count(index, answer.err());
             }
             if let Some(damaged) = damage.apply(&mut rng, &card, &plan) {
                 let twice = damaged_plan(&mut rng, &card, &damaged);
@@ -63,8 +65,8 @@ pub fn damaged_plans(n: u8, f: u8, seeds: Range<u64>, times: usize) -> (Tally, D
 
 /// Random networks of every n and f, with a bad split or without: a plan for as many
 /// blocks as can be had, as it is and damaged `times` times.
-pub fn broken_off_plans(seeds: Range<u64>, times: usize) -> Tally {
-    let mut tally = Tally::default();
+pub fn broken_off_plans<T: Compared>(seeds: Range<u64>, times: usize) -> T {
+    let mut tally = T::default();
     for seed in seeds {
         let mut rng = Rng::new(seed);
         // The plans of seven and eight servers are long.
@@ -89,8 +91,8 @@ pub fn broken_off_plans(seeds: Range<u64>, times: usize) -> Tally {
 
 /// Accepted plans together with the card of another network: one with some links
 /// less, one with other links, one of another n or f.
-pub fn other_cards(seeds: Range<u64>) -> Tally {
-    let mut tally = Tally::default();
+pub fn other_cards<T: Compared>(seeds: Range<u64>) -> T {
+    let mut tally = T::default();
     for seed in seeds {
         let mut rng = Rng::new(seed);
         let (n, f) = SMALL[seed as usize % SMALL.len()];
@@ -117,8 +119,8 @@ pub fn other_cards(seeds: Range<u64>) -> Tally {
 
 /// Plans for networks whose cards give links again, as they are and damaged `times`
 /// times: each gets the answer that it gets with the card that gives each link once.
-pub fn twin_cables(seeds: Range<u64>, times: usize) -> Tally {
-    let mut tally = Tally::default();
+pub fn twin_cables<T: Compared>(seeds: Range<u64>, times: usize) -> T {
+    let mut tally = T::default();
     for seed in seeds {
         let mut rng = Rng::new(seed);
         let (n, f) = SMALL[seed as usize % SMALL.len()];
@@ -138,8 +140,8 @@ pub fn twin_cables(seeds: Range<u64>, times: usize) -> Tally {
 }
 
 /// Random cards, sound or damaged, with plans that do not look at them.
-pub fn any_cards(seeds: Range<u64>) -> Tally {
-    let mut tally = Tally::default();
+pub fn any_cards<T: Compared>(seeds: Range<u64>) -> T {
+    let mut tally = T::default();
     let (_, sound) = planned(&mut Rng::new(1), 4, 1);
     let too_long = vec![BLOCK; PLAN_LIMIT + 1];
     for seed in seeds {
@@ -158,8 +160,8 @@ pub fn any_cards(seeds: Range<u64>) -> Tally {
 
 /// Random bytes for random networks, most of them after the beginning of a sound
 /// plan.
-pub fn plan_like_bytes(seeds: Range<u64>, times: usize) -> Tally {
-    let mut tally = Tally::default();
+pub fn plan_like_bytes<T: Compared>(seeds: Range<u64>, times: usize) -> T {
+    let mut tally = T::default();
     for seed in seeds {
         let mut rng = Rng::new(seed);
         let (n, f) = [(2, 0), (3, 0), (4, 0), (4, 1), (5, 1)][seed as usize % 5];
@@ -178,8 +180,8 @@ pub fn plan_like_bytes(seeds: Range<u64>, times: usize) -> Tally {
 ///
 /// The bytes after the end of what is handed over are the rest of the sound plan, so
 /// an implementation that read on would be found out.
-pub fn truncations(n: u8, f: u8, seeds: Range<u64>) -> Tally {
-    let mut tally = Tally::default();
+pub fn truncations<T: Compared>(n: u8, f: u8, seeds: Range<u64>) -> T {
+    let mut tally = T::default();
     for seed in seeds {
         let (card, plan) = planned(&mut Rng::new(seed), n, f);
         for length in 0..=plan.len() {
@@ -192,8 +194,8 @@ pub fn truncations(n: u8, f: u8, seeds: Range<u64>) -> Tally {
 
 /// A short accepted plan with every one of its bytes set to every value, left out,
 /// and with every byte of a plan put before it.
-pub fn every_byte(n: u8, f: u8) -> Tally {
-    let mut tally = Tally::default();
+pub fn every_byte<T: Compared>(n: u8, f: u8) -> T {
+    let mut tally = T::default();
     let (card, mut plan) = short_plan(n, f);
     for place in 0..plan.len() {
         let old = plan[place];
@@ -224,7 +226,7 @@ fn some_places(plan: &[u8], kinds: &[u8], count: usize) -> Vec<usize> {
 
 /// A short accepted plan with every pair of values for A and S, in `blocks` of its
 /// blocks.
-pub fn every_opening(n: u8, f: u8, blocks: usize) -> Tally {
+pub fn every_opening<T: Compared>(n: u8, f: u8, blocks: usize) -> T {
     let (card, plan) = short_plan(n, f);
     let places = some_places(&plan, &[BLOCK], blocks);
     every_pair(&card, &plan, places.iter().map(|place| place + 2))
@@ -232,15 +234,15 @@ pub fn every_opening(n: u8, f: u8, blocks: usize) -> Tally {
 
 /// A short accepted plan with every pair of values for k and N, in `sets` of its 14
 /// commands.
-pub fn every_neighbours(n: u8, f: u8, sets: usize) -> Tally {
+pub fn every_neighbours<T: Compared>(n: u8, f: u8, sets: usize) -> T {
     let (card, plan) = short_plan(n, f);
     let places = some_places(&plan, &[NEIGHBOURS], sets);
     every_pair(&card, &plan, places.iter().map(|place| place + 1))
 }
 
 /// Every pair of values for the two bytes at each of these places.
-fn every_pair(card: &[u8], plan: &[u8], places: impl Iterator<Item = usize>) -> Tally {
-    let mut tally = Tally::default();
+fn every_pair<T: Compared>(card: &[u8], plan: &[u8], places: impl Iterator<Item = usize>) -> T {
+    let mut tally = T::default();
     let mut plan = plan.to_vec();
     for place in places {
         let old = [plan[place], plan[place + 1]];
@@ -264,8 +266,8 @@ fn plan_with_every_route(n: u8, f: u8) -> (Vec<u8>, Vec<u8>) {
 
 /// An accepted plan with every operand of a route whose first n+1 bytes are servers,
 /// the number n or fill, and the others fill; in `routes` of its routes of each kind.
-pub fn every_short_route(n: u8, f: u8, routes: usize) -> Tally {
-    let mut tally = Tally::default();
+pub fn every_short_route<T: Compared>(n: u8, f: u8, routes: usize) -> T {
+    let mut tally = T::default();
     let (card, mut plan) = plan_with_every_route(n, f);
     let bytes: Vec<u8> = (0..=n).chain([FILL]).collect();
     let length = usize::from(n) + 1;
@@ -291,8 +293,8 @@ pub fn every_short_route(n: u8, f: u8, routes: usize) -> Tally {
 /// Plans of these lengths, which are longer than any accepted plan is: sound plans
 /// with more behind them, commands over and over, random bytes; with sound and with
 /// refused cards.
-pub fn around_the_limit(lengths: &[usize]) -> Tally {
-    let mut tally = Tally::default();
+pub fn around_the_limit<T: Compared>(lengths: &[usize]) -> T {
+    let mut tally = T::default();
     let (card, plan) = planned(&mut Rng::new(1), 8, 2);
     let first_block = &plan[..places(&plan, &[BLOCK])[1]];
     let longest = lengths.iter().copied().max().unwrap_or(0);

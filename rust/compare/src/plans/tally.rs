@@ -1,13 +1,10 @@
-//! Comparing the two implementations on one plan, and counting what they answer.
+//! The plan check of the two implementations, and how often each answer was met.
 
-use crate::text::{hex, hex_beginning, plain};
+use super::compared::Compared;
 use crate::{add, converted};
 use generate::DAMAGES;
 use reference::{Refusal, Totals};
-use std::fmt::{self, Arguments, Display, Formatter};
-
-/// What the plan check answers.
-pub(super) type Answer = Result<Totals, Refusal>;
+use std::fmt::{self, Display, Formatter};
 
 /// How often each answer was met.
 #[derive(Debug, Clone, Default)]
@@ -32,30 +29,30 @@ impl Tally {
         add(&mut self.plan_refused, &other.plan_refused);
     }
 
-    /// Asks the library and the reference about `plan` for `card`, counts the answer
-    /// and hands it back.
-    ///
-    /// Panics if they differ; `made_by` then says how to get the plan again.
-    pub(super) fn compare(&mut self, card: &[u8], plan: &[u8], made_by: Arguments) -> Answer {
-        let library = converted::totals(agreement::check_plan(card, plan));
-        let reference = reference::check_plan(card, plan);
-        if library != reference {
-            panic!(
-                "library and reference differ\n  card       {}\n  plan       {}\
-                 \n  made by    {made_by}\n  library    {}\n  reference  {}",
-                hex(card),
-                hex_beginning(plan),
-                plain(&library),
-                plain(&reference)
-            );
+    /// Counts a plan that met this refusal, or none.
+    pub(crate) fn count_refusal(&mut self, refusal: Option<Refusal>) {
+        match refusal {
+            None => self.accepted += 1,
+            Some(Refusal::Card { number, .. }) => self.card_refused[usize::from(number)] += 1,
+            Some(Refusal::Plan { number, .. }) => self.plan_refused[usize::from(number)] += 1,
+            Some(other) => panic!("not a refusal of card or plan: {other:?}"),
         }
-        match reference {
-            Ok(_) => self.accepted += 1,
-            Err(Refusal::Card { number, .. }) => self.card_refused[usize::from(number)] += 1,
-            Err(Refusal::Plan { number, .. }) => self.plan_refused[usize::from(number)] += 1,
-            Err(other) => panic!("not a refusal of card or plan: {other:?}"),
-        }
-        reference
+    }
+}
+
+impl Compared for Tally {
+    type Answer = Totals;
+
+    fn of_library(card: &[u8], plan: &[u8]) -> Result<Totals, Refusal> {
+        converted::totals(agreement::check_plan(card, plan))
+    }
+
+    fn of_reference(card: &[u8], plan: &[u8]) -> Result<Totals, Refusal> {
+        reference::check_plan(card, plan)
+    }
+
+    fn count(&mut self, _: &[u8], answer: &Result<Totals, Refusal>) {
+        self.count_refusal(answer.err());
     }
 }
 
@@ -96,11 +93,12 @@ impl Damages {
         add(&mut self.met, &other.met);
     }
 
-    /// Counts one plan that had the damage of that index done to it.
-    pub(super) fn count(&mut self, index: usize, answer: Answer) {
+    /// Counts one plan that had the damage of that index done to it and met this refusal,
+    /// or none.
+    pub(super) fn count(&mut self, index: usize, refusal: Option<Refusal>) {
         self.made[index] += 1;
-        let as_meant = match (DAMAGES[index].meant, answer) {
-            (Some(due), Err(Refusal::Plan { number, .. })) => number == due,
+        let as_meant = match (DAMAGES[index].meant, refusal) {
+            (Some(due), Some(Refusal::Plan { number, .. })) => number == due,
             (meant, _) => meant.is_none(),
         };
         self.met[index] += usize::from(as_meant);

@@ -110,18 +110,20 @@ fn offices(file: &mut Writer, offices: &[Spot]) {
 
 fn draw_office(file: &mut Writer, number: usize, office: &Spot) {
     let (fill, ink) = office.badge.map_or(NO_PART, |badge| colours(badge.part));
-    let [x, y, r] = [office.centre.x, office.centre.y, office.radius].map(fixed);
-    let outline = format!(r#"stroke="black" stroke-width="{OUTLINE}""#);
-    file.line(&format!(
-        r#"<circle cx="{x}" cy="{y}" r="{r}" fill="{fill}" {outline}/>"#
-    ));
+    file.line(&circle(office.centre, office.radius, fill));
     file.line(&sign(office.centre, NUMBER_SIZE, ink, &number.to_string()));
     if let Some(badge) = &office.badge {
         draw_badge(file, badge);
     }
-    for line in &office.name {
+    for line in &office.beside {
         file.line(&words(line, ""));
     }
+}
+
+fn circle(centre: Point, radius: f64, fill: &str) -> String {
+    let [x, y, r] = [centre.x, centre.y, radius].map(fixed);
+    let outline = format!(r#"stroke="black" stroke-width="{OUTLINE}""#);
+    format!(r#"<circle cx="{x}" cy="{y}" r="{r}" fill="{fill}" {outline}/>"#)
 }
 
 fn draw_badge(file: &mut Writer, badge: &Badge) {
@@ -166,6 +168,9 @@ fn words(label: &Label, font: &str) -> String {
 fn legend(file: &mut Writer, page: &Page) {
     file.group(r#"g class="legend""#, |file| {
         strokes(file, "samples", &page.legend.links);
+        for &(centre, radius) in &page.legend.circles {
+            file.line(&circle(centre, radius, NO_PART.0));
+        }
         for badge in &page.legend.badges {
             draw_badge(file, badge);
         }

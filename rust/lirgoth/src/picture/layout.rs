@@ -21,6 +21,8 @@ const VERDICT_SIZE: f64 = 18.0;
 
 /// Length of the line that the legend shows for a link: an arrow head and a little more line.
 const SAMPLE: f64 = 40.0;
+/// Radii of the two circles that it shows for the load; the larger is as high as a line of text.
+const SIZES: [f64; 2] = [6.0, 10.0];
 /// From the left of a legend's symbol to its text.
 const INDENT: f64 = SAMPLE + 2.0 * GAP;
 
@@ -35,11 +37,13 @@ pub struct Page {
     pub legend: Legend,
 }
 
-/// The legend: its words, and the links and letters that they explain.
+/// The legend: its words, and the links, circles and letters that they explain.
 #[derive(Default)]
 pub struct Legend {
     pub words: Vec<Label>,
     pub links: Vec<Stroke>,
+    /// Centres and radii.
+    pub circles: Vec<(Point, f64)>,
     pub badges: Vec<Badge>,
 }
 
@@ -127,6 +131,12 @@ impl Legend {
             Symbol::Link(ways, weight) => {
                 let right = left.plus(SAMPLE, 0.0);
                 self.links.push(Stroke::new(left, right, ways, weight));
+            }
+            Symbol::Sizes => {
+                // The first begins where a sample of a link does, and the last ends there.
+                let [small, large] = SIZES;
+                let ends = [small, SAMPLE - large].map(|x| left.plus(x, 0.0));
+                self.circles.extend(ends.into_iter().zip(SIZES));
             }
             Symbol::Part(part) => {
                 let centre = left.plus(SAMPLE / 2.0, 0.0);

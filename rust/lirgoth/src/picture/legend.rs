@@ -4,7 +4,7 @@ use super::links::{Link, Ways, Weight};
 use super::words;
 use super::{Mark, Part};
 use crate::names::Names;
-use agreement::Network;
+use agreement::{Load, Network};
 use std::iter;
 
 /// A row of the legend.
@@ -17,6 +17,8 @@ pub struct Entry {
 #[derive(Debug, Clone, Copy, PartialEq, Eq)]
 pub enum Symbol {
     Link(Ways, Weight),
+    /// Circles that grow.
+    Sizes,
     Part(Part),
 }
 
@@ -42,6 +44,19 @@ pub fn of_links(links: &[Link]) -> Vec<Entry> {
         of_weight(Weight::Taken, words::TAKEN),
     ];
     rows.into_iter().flatten().collect()
+}
+
+/// The row that says how the load on the relays is drawn.
+pub fn of_load(load: &Load) -> Entry {
+    let symbol = (load.total() > 0).then_some(Symbol::Sizes);
+    let text = match symbol {
+        Some(_) => words::SIZES,
+        None => words::NO_RELAYS,
+    };
+    Entry {
+        symbol,
+        text: text.to_string(),
+    }
 }
 
 /// Rows that say what is marked and why, with a row for each of its sets that has an office.

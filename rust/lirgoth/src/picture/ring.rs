@@ -1,12 +1,15 @@
-//! Where the offices stand: in a ring, clockwise, each with its letter and its name on the outside.
+//! Where the offices stand: in a ring, clockwise, each with its letter, its name and its load on the
+//! outside.
 
 use super::shapes::{Anchor, Badge, Label, Point, Spot, BADGE, LEADING};
 use super::text;
+use super::words;
 use super::Office;
 use std::f64::consts::PI;
 
-/// Radius of an office's circle. Seven arrows may meet at one office of eight, 22.5 degrees apart:
-/// at this radius their heads have half a head of white between them.
+/// Radius of an office's circle, if it is not drawn larger for its load. Seven arrows may meet at
+/// one office of eight, 22.5 degrees apart: at this radius their heads have half a head of white
+/// between them.
 pub const RADIUS: f64 = 26.0;
 /// How far apart neighbours in the ring are, from centre to centre: two thirds of it is seen as the
 /// link between them.
@@ -17,7 +20,7 @@ const GAP: f64 = 8.0;
 /// Width of a name's lines unless a word is wider: about half of the longest name, 24 letters.
 const NAME_ROOM: f64 = 8.0 * text::SIZE;
 
-/// The side of an office on which its letter and its name stand.
+/// The side of an office on which its letter, its name and its load stand.
 #[derive(Debug, Clone, Copy, PartialEq, Eq)]
 enum Side {
     Left,
@@ -67,18 +70,19 @@ fn spot(office: &Office, across: f64, down: f64, ring: f64) -> Spot {
     });
     let start = beside(edge + badge.map_or(0.0, |_| BADGE + GAP));
     let name = office.name.as_deref();
+    let mut lines = name.map_or(Vec::new(), |name| text::wrap(name, text::SIZE, NAME_ROOM));
+    lines.extend(office.relayed.map(words::relayed));
     Spot {
         centre,
         radius: office.radius,
         badge,
-        name: name.map_or(Vec::new(), |name| labels(name, start, side, down)),
+        beside: labels(lines, start, side, down),
     }
 }
 
-/// The lines of a name that begins at `start`. Beside an office that stands high (`down` near -1)
+/// The lines beside an office, which begin at `start`. Beside one that stands high (`down` near -1)
 /// they reach up, beside one that stands low they reach down: away from the links.
-fn labels(name: &str, start: Point, side: Side, down: f64) -> Vec<Label> {
-    let lines = text::wrap(name, text::SIZE, NAME_ROOM);
+fn labels(lines: Vec<String>, start: Point, side: Side, down: f64) -> Vec<Label> {
     let leading = LEADING * text::SIZE;
     let from_first_to_last = lines.len().saturating_sub(1) as f64 * leading;
     let first = match side {

@@ -130,7 +130,8 @@ pub struct Spot {
     pub centre: Point,
     pub radius: f64,
     pub badge: Option<Badge>,
-    pub name: Vec<Label>,
+    /// The lines of its name, and of its load.
+    pub beside: Vec<Label>,
 }
 
 impl Spot {
@@ -143,8 +144,8 @@ impl Spot {
     /// The room of the circle and of what is written beside it.
     pub fn frame(&self) -> Frame {
         let badge = self.badge.iter().map(Badge::frame);
-        let name = self.name.iter().map(Label::frame);
-        badge.chain(name).fold(self.circle(), Frame::with)
+        let beside = self.beside.iter().map(Label::frame);
+        badge.chain(beside).fold(self.circle(), Frame::with)
     }
 
     pub fn shift(&mut self, dx: f64, dy: f64) {
@@ -152,7 +153,7 @@ impl Spot {
         if let Some(badge) = &mut self.badge {
             badge.centre = badge.centre.plus(dx, dy);
         }
-        for label in &mut self.name {
+        for label in &mut self.beside {
             label.at = label.at.plus(dx, dy);
         }
     }

@@ -85,26 +85,40 @@ fn marks(network: &Network) -> Vec<Option<Mark>> {
     bad.chain(apart.map(Some)).chain([None]).collect()
 }
 
-/// Calls `check` with every network and mark above, without names and with awkward ones.
-fn each_picture(check: impl Fn(&Network, &Names, Option<Mark>)) {
+/// No load, none on any relay, more from office to office, and the same on all, more than any plan
+/// can have.
+fn loads() -> [Option<Load>; 4] {
+    [
+        None,
+        Some([0; 8]),
+        Some([0, 5, 20, 60, 150, 400, 1_000, 3_000]),
+        Some([10_000_000; 8]),
+    ]
+    .map(|routes| routes.map(|routes| Load { routes }))
+}
+
+/// Calls `check` with every network, mark and load above, without names and with awkward ones.
+fn each_picture(check: impl Fn(&Network, &Names, Option<Mark>, Option<Load>)) {
     let short = named(&["Oslo", "Bergen"]);
     for names in [Names::default(), short, named(&AWKWARD)] {
         for network in (2..=8).flat_map(networks) {
             for mark in marks(&network) {
-                check(&network, &names, mark);
+                for load in loads() {
+                    check(&network, &names, mark, load);
+                }
             }
         }
     }
 }
 
-fn placed(network: &Network, names: &Names, mark: Option<Mark>) -> Page {
-    page(&content(network, names, mark))
+fn placed(network: &Network, names: &Names, mark: Option<Mark>, load: Option<Load>) -> Page {
+    page(&content(network, names, mark, load))
 }
 
 #[test]
 fn every_file_is_well_formed_and_stands_alone() {
-    each_picture(|network, names, mark| {
-        let file = svg(network, names, mark);
+    each_picture(|network, names, mark, load| {
+        let file = svg(network, names, mark, load);
         let root = xml::read(&file);
         let [title, desc] = [&root.children[0], &root.children[1]];
         assert_eq!((root.name.as_str(), title.name.as_str()), ("svg", "title"));
@@ -122,15 +136,15 @@ fn every_file_is_well_formed_and_stands_alone() {
 
 #[test]
 fn the_smallest_file_reads_well() {
-    let file = svg(&network(2, 0, |u, _| u == 0), &named(&["Oslo"]), None);
+    let file = svg(&network(2, 0, |u, _| u == 0), &named(&["Oslo"]), None, None);
     assert_eq!(file, include_str!("tests/small.svg"));
 }
 
 #[test]
 fn lengths_have_one_decimal() {
     let lengths = ["x", "y", "x1", "y1", "x2", "y2", "cx", "cy", "r"];
-    each_picture(|network, names, mark| {
-        let root = xml::read(&svg(network, names, mark));
+    each_picture(|network, names, mark, load| {
+        let root = xml::read(&svg(network, names, mark, load));
         let attributes = root
             .all()
             .into_iter()
@@ -156,8 +170,8 @@ fn pairs(network: &Network) -> (usize, usize) {
 
 #[test]
 fn every_link_is_drawn_once() {
-    each_picture(|network, names, mark| {
-        let root = xml::read(&svg(network, names, mark));
+    each_picture(|network, names, mark, load| {
+        let root = xml::read(&svg(network, names, mark, load));
         let links = root.of_class("links");
         let (two_way, one_way) = pairs(network);
         assert_eq!(links.named("line").len(), two_way + one_way);
@@ -197,8 +211,8 @@ fn along(stroke: &Stroke) -> Vec<Point> {
 
 #[test]
 fn links_lead_from_edge_to_edge_and_cross_no_circle() {
-    each_picture(|network, names, mark| {
-        let page = placed(network, names, mark);
+    each_picture(|network, names, mark, load| {
+        let page = placed(network, names, mark, load);
         let links = links::of(network, mark);
         assert_eq!(links.len(), page.links.len());
         for (link, stroke) in links.iter().zip(&page.links) {
@@ -228,8 +242,8 @@ fn are_apart(one: &[Point; 3], other: &[Point; 3]) -> bool {
 
 #[test]
 fn arrow_heads_are_clear_of_each_other_and_of_circles() {
-    each_picture(|network, names, mark| {
-        let page = placed(network, names, mark);
+    each_picture(|network, names, mark, load| {
+        let page = placed(network, names, mark, load);
         let heads: Vec<[Point; 3]> = page.links.iter().filter_map(|link| link.head).collect();
         for (i, head) in heads.iter().enumerate() {
             assert!(heads[..i].iter().all(|other| are_apart(head, other)));
@@ -243,7 +257,7 @@ fn arrow_heads_are_clear_of_each_other_and_of_circles() {
 
 /// The room of all texts and squares of a page.
 fn written(page: &Page) -> Vec<Frame> {
-    let names = page.offices.iter().flat_map(|office| &office.name);
+    let names = page.offices.iter().flat_map(|office| &office.beside);
     let labels = names
         .chain(&page.legend.words)
         .chain([&page.title, &page.verdict]);
@@ -258,11 +272,23 @@ fn written(page: &Page) -> Vec<Frame> {
         .collect()
 }
 
+/// The room of all circles of a page.
+fn circles(page: &Page) -> Vec<Frame> {
+    let in_legend = page.legend.circles.iter().map(|&(centre, radius)| Spot {
+        centre,
+        radius,
+        badge: None,
+        beside: Vec::new(),
+    });
+    let offices = page.offices.iter().cloned();
+    offices.chain(in_legend).map(|spot| spot.circle()).collect()
+}
+
 #[test]
 fn everything_is_on_the_canvas() {
-    each_picture(|network, names, mark| {
-        let page = placed(network, names, mark);
-        let circles = page.offices.iter().map(Spot::circle);
+    each_picture(|network, names, mark, load| {
+        let page = placed(network, names, mark, load);
+        let circles = circles(&page);
         for frame in written(&page).into_iter().chain(circles) {
             assert!(frame.left >= 0.0 && frame.right <= page.width, "{frame:?}");
             assert!(frame.top >= 0.0 && frame.bottom <= page.height, "{frame:?}");
@@ -281,13 +307,13 @@ fn overlap(one: &Frame, other: &Frame) -> bool {
 
 #[test]
 fn nothing_lies_on_a_text() {
-    each_picture(|network, names, mark| {
-        let page = placed(network, names, mark);
-        let written = written(&page);
+    each_picture(|network, names, mark, load| {
+        let page = placed(network, names, mark, load);
+        let (written, circles) = (written(&page), circles(&page));
         for (i, frame) in written.iter().enumerate() {
             let is_clear = |other: &Frame| !overlap(frame, other);
             assert!(written[..i].iter().all(is_clear), "{frame:?}");
-            assert!(page.offices.iter().all(|office| is_clear(&office.circle())));
+            assert!(circles.iter().all(is_clear));
             let is_outside = |p: &Point| {
                 p.x < frame.left || p.x > frame.right || p.y < frame.top || p.y > frame.bottom
             };
@@ -304,7 +330,7 @@ fn a_bold_title_fits() {
     // Bold letters are up to a fifth wider than others.
     let bold = 1.2;
     for network in (2..=8).flat_map(networks) {
-        let page = placed(&network, &Names::default(), None);
+        let page = placed(&network, &Names::default(), None, None);
         assert!(page.title.frame().right * bold < page.width);
     }
 }
@@ -321,8 +347,8 @@ fn letters(element: &Element) -> String {
 
 #[test]
 fn each_office_has_the_letter_of_its_set() {
-    each_picture(|network, names, mark| {
-        let root = xml::read(&svg(network, names, mark));
+    each_picture(|network, names, mark, load| {
+        let root = xml::read(&svg(network, names, mark, load));
         let of = |office| mark.and_then(|mark| Part::of(office, &mark));
         let expected: String = (0..network.n).filter_map(of).map(Part::letter).collect();
         assert_eq!(letters(root.of_class("offices")), expected);
@@ -338,7 +364,7 @@ fn each_office_has_the_letter_of_its_set() {
 
 /// The legend as the picture shows it, lines joined.
 fn legend_of(network: &Network, names: &Names, mark: Option<Mark>) -> Vec<String> {
-    let content = content(network, names, mark);
+    let content = content(network, names, mark, None);
     let rows = content.legend.into_iter();
     rows.map(|row| row.text.replace('\u{a0}', " ")).collect()
 }
@@ -409,7 +435,7 @@ fn offices_to_be_taken_away_are_explained() {
         "Taking away office 1 leaves office 0 apart from offices 2 3.",
     ];
     assert_eq!(legend_of(&row, &Names::default(), mark), expected);
-    let content = content(&row, &Names::default(), mark);
+    let content = content(&row, &Names::default(), mark, None);
     let expected = [
         "Offices 0 1 2 3 in a ring.",
         "Two-way links: 0 and 1, 1 and 2, 2 and 3.",
@@ -440,7 +466,7 @@ fn weight(network: &Network, split: &Split, link: &Link) -> Weight {
 
 #[test]
 fn links_are_weighed_by_what_the_sides_hear() {
-    each_picture(|network, _, mark| {
+    each_picture(|network, _, mark, _| {
         for link in links::of(network, mark) {
             let expected = match mark {
                 Some(Mark::Split(split)) => weight(network, &split, &link),
@@ -483,6 +509,71 @@ fn titles_and_verdicts_read_well() {
     assert_eq!([of(2, 0), of(5, 1), of(8, 2)], expected);
 }
 
+/// The offices' circles, by their radii as they are written, and the lines beside them.
+fn drawn(network: &Network, load: Option<Load>) -> (Vec<String>, Vec<String>) {
+    let root = xml::read(&svg(network, &Names::default(), None, load));
+    let offices = root.of_class("offices");
+    let radius = |circle: &Element| circle.attribute("r").expect("a radius").to_string();
+    let beside = |text: &&Element| text.attribute("font-weight").is_none();
+    (
+        offices.named("circle").into_iter().map(radius).collect(),
+        offices
+            .named("text")
+            .into_iter()
+            .filter(beside)
+            .map(|text| text.text.clone())
+            .collect(),
+    )
+}
+
+#[test]
+fn relays_are_drawn_by_their_load() {
+    let network = network(4, 1, |_, _| true);
+    let load = |routes| Some(Load { routes });
+    let small = vec!["26.0".to_string(); 4];
+    assert_eq!(drawn(&network, None), (small.clone(), Vec::new()));
+    // Where nobody relays there is nothing to tell apart.
+    assert_eq!(drawn(&network, load([0; 8])), (small, Vec::new()));
+    let (radii, beside) = drawn(&network, load([1_600, 400, 0, 800, 0, 0, 0, 0]));
+    assert_eq!(radii, ["44.0", "31.5", "26.0", "36.1"]);
+    assert_eq!(
+        beside,
+        ["relays 1,600", "relays 400", "relays 0", "relays 800"]
+    );
+    // As large as the widest of them, whatever its number.
+    let (radii, _) = drawn(&network, load([16, 4, 0, 8, 0, 0, 0, 0]));
+    assert_eq!(radii, ["44.0", "31.5", "26.0", "36.1"]);
+}
+
+#[test]
+fn the_load_is_explained() {
+    let row = network(3, 0, |u, v| u.abs_diff(v) == 1);
+    let names = Names::new(vec![None, Some("New York".to_string())]);
+    let told = |mark, routes| {
+        let load = Some(Load { routes });
+        let Content {
+            legend,
+            description,
+            ..
+        } = content(&row, &names, mark, load);
+        let legend: Vec<String> = legend.into_iter().map(|row| row.text).collect();
+        (legend, description.last().cloned().unwrap_or_default())
+    };
+    let (legend, last) = told(None, [0, 12, 1, 0, 0, 0, 0, 0]);
+    assert_eq!(legend, [words::TWO_WAY, words::SIZES]);
+    assert_eq!(
+        last.replace('\u{a0}', " "),
+        "Office 1 (New York) relays 12 routes, office 2 relays 1 route, office 0 relays 0 routes."
+    );
+    let (legend, last) = told(None, [0; 8]);
+    assert_eq!(legend, [words::TWO_WAY, words::NO_RELAYS]);
+    assert_eq!(last, words::NO_RELAYS);
+    // Before what is marked, which goes on to the end of the legend.
+    let (legend, _) = told(apart(&row).map(Mark::Apart), [0, 12, 1, 0, 0, 0, 0, 0]);
+    assert_eq!(legend[..3], [words::TWO_WAY, words::TAKEN, words::SIZES]);
+    assert_eq!(legend.len(), 5);
+}
+
 #[test]
 fn a_network_without_links_says_so() {
     let network = network(3, 0, |_, _| false);
@@ -495,7 +586,7 @@ fn a_network_without_links_says_so() {
 #[test]
 fn the_description_tells_the_whole_picture() {
     let network = network(3, 0, |u, v| u == 0 || (u, v) == (1, 0));
-    let content = content(&network, &named(&["Oslo"]), None);
+    let content = content(&network, &named(&["Oslo"]), None, None);
     let expected = [
         "Offices 0 (Oslo), 1, 2 in a ring.",
         "Two-way links: 0 and 1.",

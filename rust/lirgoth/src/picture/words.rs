@@ -4,11 +4,12 @@ use super::legend::{Entry, Symbol};
 use super::links::{Link, Ways};
 use super::{Mark, Part};
 use crate::apart::Apart;
+use crate::load::widest_first;
 use crate::names::Names;
 use crate::words::{
-    at_most, can_agree, capital, counted, hearing, sentence, taking_away, wanted, SO,
+    at_most, can_agree, capital, counted, grouped, hearing, sentence, taking_away, wanted, SO,
 };
-use agreement::{Network, Split};
+use agreement::{Load, Network, Split};
 
 pub const NO_LINKS: &str = "There are no links between the offices.";
 pub const TWO_WAY: &str = "Two-way link: each of the two offices hears the other.";
@@ -16,6 +17,8 @@ pub const ONE_WAY: &str = "One-way link: the office at the arrow head hears the 
 pub const THICK: &str = "Thick link: by it L or R hears an office outside.";
 pub const DASHED: &str = "Dashed link: left out with F.";
 pub const TAKEN: &str = "Dashed link: taken away with K.";
+pub const SIZES: &str = "The larger the circle, the more routes the office relays.";
+pub const NO_RELAYS: &str = "No office relays: every route goes straight from source to receiver.";
 
 pub fn title(network: &Network) -> String {
     format!("{} offices, {}", network.n, at_most(network.f))
@@ -48,6 +51,26 @@ pub fn of_rule(network: &Network, apart: &Apart) -> String {
         "Two-way site: {least} must be taken away before the rest falls apart, and the older rule \
          wants at least {to_take}."
     )
+}
+
+/// How many routes an office relays, beside it.
+pub fn relayed(routes: usize) -> String {
+    format!("relays {}", grouped(routes))
+}
+
+/// How many routes each office relays, in a sentence.
+pub fn of_load(network: &Network, names: &Names, load: &Load) -> String {
+    if load.total() == 0 {
+        return NO_RELAYS.to_string();
+    }
+    let offices = widest_first(network, load).into_iter();
+    let offices: Vec<String> = offices
+        .map(|(office, routes)| {
+            let office = names.office(office);
+            format!("{office} relays {}", counted(routes, "route"))
+        })
+        .collect();
+    sentence(&offices.join(", "))
 }
 
 /// What a set has to do with what is marked.
