@@ -1,8 +1,9 @@
 -- The operands in a plan's bytes, one command after the other.
---     route-wide          a command with a route takes nine bytes
---     operands-none       no command is here
---     operands-next       a whole command is here: its operand, if it has a route, and those after it
---     operands-route, operands-other   the same at a place of the bytes
+--     route-wide       a command with a route takes nine bytes
+--     whole-wide       a whole command takes a byte at least, and lies within the bytes
+--     operands-next    the first command is whole: its operand, if it has a route, and those after it
+--     operands-route   the same at a place of the bytes, for a command with a route; operands-other for another
+--     operands-over    no whole command is at the place
 -- Assumes nothing.
 use mathlib.Core.Path.{_≡_, refl, sym, ap, _∙_}
 use mathlib.Core.Bool.{true, false, cond, not}
@@ -29,31 +30,31 @@ cut-short : (s : List ℕ) → length s ≤ 0 → isCut s 0 ≡ true
 unfolding isCut
 cut-short s h = simp (le-ltb 0 (length s) h)
 
--- a whole command takes a byte at least
-whole-wide : (s : List ℕ) → isCut s 0 ≡ false → (0 < length s) × (0 < width (getD s 0 0)) × (width (getD s 0 0) ≤ length s)
+pub whole-wide : (s : List ℕ) (at : ℕ) → isCut s at ≡ false → (at < length s) × (0 < width (getD s at 0)) × (at + width (getD s at 0) ≤ length s)
 unfolding isCut
-whole-wide s e =
-    let w = width (getD s 0 0) in
-    let o = or-false-right (not (ltb 0 (length s))) _ e in
+whole-wide s at e =
+    let w = width (getD s at 0) in
+    let o = or-false-right (not (ltb at (length s))) _ e in
     let z = eqb-false w 0 (or-false-left (eqb w 0) _ o) in
-    let h = whole-command s 0 w e refl in
+    let h = whole-command s at w e refl in
     (h .0, omega (arith, z), omega arith)
 
 -- how many commands may be taken does not matter, where there are as many as bytes
-same-fuel : (j k : ℕ) (s : List ℕ) → length s ≤ j → length s ≤ k → operandsFrom j s ≡ operandsFrom k s
+enough : (j k : ℕ) (s : List ℕ) → length s ≤ j → length s ≤ k → operandsFrom j s ≡ operandsFrom k s
 unfolding operandsFrom
-same-fuel zero zero s a b = refl
-same-fuel zero (suc k) s a b = let e = cut-short s a in sym (simp e)
-same-fuel (suc j) zero s a b = let e = cut-short s b in simp e
-same-fuel (suc j) (suc k) s a b =
+enough zero zero s a b = refl
+enough zero (suc k) s a b = let e = cut-short s a in sym (simp e)
+enough (suc j) zero s a b = let e = cut-short s b in simp e
+enough (suc j) (suc k) s a b =
     let w = width (getD s 0 0) in
     cases (isCut s 0) (λ e. rw e refl) λ e.
-    let h = whole-wide s e in
+    let h = whole-wide s 0 e in
     let l = length-drop w s in
-    let ih = same-fuel j k (drop w s) (omega arith) (omega arith) in
+    let ih = enough j k (drop w s) (omega arith) (omega arith) in
     rw (e, ih) refl
 
-pub operands-none : (s : List ℕ) → isCut s 0 ≡ true → operandsIn s ≡ []
+-- no whole command is first
+operands-none : (s : List ℕ) → isCut s 0 ≡ true → operandsIn s ≡ []
 unfolding operandsIn operandsFrom
 operands-none s e = none (length s)
   where
@@ -65,11 +66,11 @@ pub operands-next : (s : List ℕ) → isCut s 0 ≡ false
     → operandsIn s ≡ cond (hasRoute (getD s 0 0)) (take 8 (drop 1 s) ∷ operandsIn (drop (width (getD s 0 0)) s)) (operandsIn (drop (width (getD s 0 0)) s))
 unfolding operandsIn operandsFrom
 operands-next s e =
-    let h = whole-wide s e in
+    let h = whole-wide s 0 e in
     let w = width (getD s 0 0) in
     let z : length s ≡ suc (length s - 1) = omega arith in
     let l = length-drop w s in
-    let on = same-fuel (length s - 1) (length (drop w s)) (drop w s) (omega arith) (omega arith) in
+    let on = enough (length s - 1) (length (drop w s)) (drop w s) (omega arith) (omega arith) in
     ap (λ (k : ℕ). operandsFrom k s) z ∙ rw (e, on) refl
 
 -- the same at a place of the bytes

@@ -7,7 +7,7 @@
 --     Routed, routed-..           the same for a command with a route
 -- Assumes nothing.
 use mathlib.Core.Path.{_≡_, refl, sym, ap, _∙_}
-use mathlib.Core.Bool.{Bool, true, false, cond, not}
+use mathlib.Core.Bool.{Bool, true, false, cond}
 use mathlib.Core.List.{List}
 use Prim.Native.Nat.{ℕ, zero, suc, _+_, _-_, _≤_, _<_}
 use native.Mathlib.Omega.{arith}
@@ -15,13 +15,13 @@ use lib.Dec.{eqb, ltb}
 use lib.ListN.{length, getD, set, take, drop, length-set, length-drop, replicate}
 use lib.Seq.{getD-set-same, getD-set-other, length-take-le}
 use borrow.Author.Tests.{le-ltb, eq-eqb, ne-eqb, eqb-true, eqb-false}
-use Rattle.facts.proofs.Bools.{cases, or-false-left, or-false-right}
+use Rattle.facts.proofs.Bools.{cases}
 use Rattle.route.specs.Commands.{width, isCut}
 use Rattle.route.proofs.Paths.{part-next, part-over}
-use Rattle.plan.proofs.Groups.{whole-command, part-rest}
+use Rattle.plan.proofs.Groups.{part-rest}
 use Rattle.load.specs.Places.{hasRoute, operandsIn}
 use Rattle.load.specs.Tally.{between, tally, Room, Adds, Tallies}
-use Rattle.load.proofs.Commands.{route-wide, operands-route, operands-other, operands-over}
+use Rattle.load.proofs.Commands.{route-wide, whole-wide, operands-route, operands-other, operands-over}
 use Rattle.load.proofs.Between.{between-few}
 
 -- the test of a command
@@ -154,15 +154,10 @@ pub record Here (s a : List ℕ) (at : ℕ) : Type 0 where
 
 module _ (s a : List ℕ) (at : ℕ) (so : Here s a at) where
   pub here-inside : at < length s
-  here-inside = whole-command s at (width (getD s at 0)) (so .whole) refl .0
+  here-inside = whole-wide s at (so .whole) .0
 
   pub here-wide : (w : ℕ) → w ≡ width (getD s at 0) → (0 < w) × (at + w ≤ length s)
-  unfolding isCut
-  here-wide w q =
-      let h = whole-command s at w (so .whole) (sym q) in
-      let o = or-false-right (not (ltb at (length s))) _ (so .whole) in
-      let z = eqb-false (width (getD s at 0)) 0 (or-false-left (eqb (width (getD s at 0)) 0) _ o) in
-      (omega (arith, z), omega arith)
+  here-wide w q = let h = whole-wide s at (so .whole) in (omega arith, omega arith)
 
   pub here-goes : hasRoute (getD s at 0) ≡ false → (w : ℕ) → w ≡ width (getD s at 0) → Counting s a (at + w)
   here-goes r w q =

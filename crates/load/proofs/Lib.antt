@@ -3,7 +3,7 @@
 -- Encoded     the operands in the bytes of blocks are those of their routes
 -- Sums        sums over servers
 -- Between     how often a server stands between source and receiver of a route
--- Routed      the counts of routes by their operands
+-- Relayed     the counts of routes by their operands
 -- Counting    the functions that count, on plain lists
 -- Main        what a user of the load relies on
 -- Answering   the answers of the load
@@ -12,7 +12,7 @@ pub mod Proper
 pub mod Encoded
 pub mod Sums
 pub mod Between
-pub mod Routed
+pub mod Relayed
 pub mod Counting
 pub mod Main
 pub mod Answering

@@ -31,7 +31,7 @@ use Rattle.load.specs.Tally.{tally, Tallies}
 use Rattle.load.specs.Theorems.{Sums, BeyondV}
 use Rattle.load.proofs.Proper.{Proper, ProperBlock, plan-proper}
 use Rattle.load.proofs.Encoded.{operands-encoded, routes-proper}
-use Rattle.load.proofs.Routed.{tally-relayed, places-added, relayed-beyond, counts-long, counts-at}
+use Rattle.load.proofs.Relayed.{tally-relayed, places-added, relayed-beyond, counts-long, counts-at}
 
 -- an accepted plan for the network of a card
 module _ (card plan : List ℕ) (n f : ℕ) (links : Links) (e : readCard card ≡ network n f links) (a : Accepted card plan) where
