@@ -4,12 +4,14 @@
 --     card-read        an accepted card: the reader's n, f and links are its network
 --     card-refused     a refused card
 --     print-words      a card printed back
+--     counts-laid      0 and eight counts, laid entry by entry
+--     load-counted, load-refused   the load, with what the counts add up to
 --     run-words        a run
 --     quick-words      the quick test, with what it says of the split test; held-words its yes or no
 -- Assumes nothing.
 use mathlib.Core.Path.{_≡_, refl, sym, ap, ap₂, _∙_}
 use mathlib.Core.Bool.{Bool, true, false}
-use mathlib.Core.List.{List, [], _∷_, _++_}
+use mathlib.Core.List.{List, [], _∷_, _++_, head-eq-of-cons-eq, tail-eq-of-cons-eq}
 use Prim.Native.Nat.{ℕ, zero, suc, _+_}
 use native.Mathlib.Omega.{arith}
 use lib.ListN.{length, getD, drop, drop-of-length-le}
@@ -30,10 +32,15 @@ use Rattle.network.proofs.LinkRows.{rows-none}
 use Rattle.two_way.specs.Quick.{Quick, ruled, quickTest}
 use Rattle.two_way.specs.Quick as Quick
 use Rattle.two_way.proofs.Main.{agrees}
+use Rattle.load.specs.Load.{added}
+use Rattle.load.specs.Answers.{loadedOf}
+use Rattle.load.specs.Answers as Load
+use Rattle.load.specs.Places.{placesIn}
+use Rattle.load.specs.declared.Loaded.{Loaded}
 use Rattle.run.specs.declared.call.Ran.{Ran}
 use Rattle.run.specs.Answers.{ranOf}
 use Rattle.run.specs.Answers as Run
-use Rattle.agreement.specs.Words.{refusedWords, cardWords, printWords, PrintWords, splitWords, quickWords, QuickWords, planWords, RunWords}
+use Rattle.agreement.specs.Words.{refusedWords, cardWords, printWords, PrintWords, splitWords, quickWords, QuickWords, planWords, loadWords, LoadWords, RunWords}
 
 module _ (r : Refused) (w m p : ℕ) (a : w ≡ whoseOf r) (b : m ≡ numberOf r) (c : p ≡ placeOf r) where
   pub split-refused : (s : Split) → s ≡ unread r → 2 ∷ w ∷ m ∷ p ∷ 0 ∷ [] ≡ splitWords s
@@ -61,6 +68,25 @@ module _ (s : List ℕ) (lent links : Links) (reading : Reading) (a : Answered s
 
 pub print-words : (card lent : List ℕ) (r : Printed) (after words : List ℕ) → Printing card lent r after → words ≡ printWords (printedOf r) → PrintWords card lent after words
 print-words card lent r after words a w = record { answer = w ∙ ap printWords (a .answer); bytes = a .bytes }
+
+pub counts-laid : (counts : List ℕ) → length counts ≡ 8 → 0 ∷ entries 8 0 counts ≡ 0 ∷ counts
+counts-laid counts h = ap (λ (x : List ℕ). 0 ∷ x) (entries-are 8 0 counts h)
+
+-- the words of the load, with what the counts add up to
+module _ (card plan lent : List ℕ) (r : Loaded) (after : List ℕ) (a : Load.Answered card plan lent r after) (words : List ℕ) where
+  load-words : words ≡ loadWords (loadedOf r after) → LoadWords card plan words
+  load-words w = record { answer = w ∙ ap loadWords (a .answer); sum = λ counts q. go r refl counts (sym w ∙ q) }
+    where
+      go : (l : Loaded) → r ≡ l → (counts : List ℕ) → loadWords (loadedOf l after) ≡ 0 ∷ counts → added counts ≡ placesIn plan
+      go Loaded.Counted e counts q = ap added (sym (tail-eq-of-cons-eq q)) ∙ a .sum e
+      go (Loaded.Refused g) e counts q = let z : _≡_ {A = ℕ} 2 0 = head-eq-of-cons-eq q in absurd (omega arith)
+
+  pub load-counted : r ≡ Loaded.Counted → words ≡ 0 ∷ after → LoadWords card plan words
+  load-counted e w = load-words (w ∙ sym (rw e refl))
+
+  pub load-refused : (g : Refusal) → r ≡ Loaded.Refused g → (w : List ℕ) → w ≡ refusedWords (refusalOf g)
+      → words ≡ getD w 0 0 ∷ getD w 1 0 ∷ getD w 2 0 ∷ getD w 3 0 ∷ 0 ∷ 0 ∷ 0 ∷ 0 ∷ 0 ∷ [] → LoadWords card plan words
+  load-refused g e w h q = load-words (q ∙ rw (h, e) refl)
 
 pub run-words : (card plan inputs : List ℕ) (X : ℕ) (table lent : List ℕ) (r : Ran) (after words : List ℕ) → Run.Answered card plan inputs X table lent r after
     → words ≡ planWords (ranOf r) → RunWords card plan inputs X table lent after words

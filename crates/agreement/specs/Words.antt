@@ -15,6 +15,9 @@ use Rattle.two_way.specs.Quick.{Quick, ruled, quickTest}
 use Rattle.two_way.specs.Quick as Quick
 use Rattle.plan.specs.Check.{Totals, totals}
 use Rattle.plan.specs.Check as Check
+use Rattle.load.specs.Load.{added, Load, counted, loadCall}
+use Rattle.load.specs.Load as Load
+use Rattle.load.specs.Places.{placesIn}
 use Rattle.steps.specs.Run.{runPlan, lentAfter}
 use Rattle.steps.specs.Demand.{Agreed}
 use Rattle.part.specs.State.{State}
@@ -56,6 +59,15 @@ pub record QuickWords (card words : List ℕ) : Type 0 where
 abbrev pub planWords : Totals → List ℕ
 planWords (totals blocks carriages) = 0 ∷ blocks ∷ carriages ∷ 0 ∷ []
 planWords (Check.turned r) = refusedWords r
+
+abbrev pub loadWords : Load → List ℕ
+loadWords (counted counts) = 0 ∷ counts
+loadWords (Load.turned r) = refusedWords r ++ 0 ∷ 0 ∷ 0 ∷ 0 ∷ 0 ∷ []
+
+-- the words of the load; `sum` is what the counts add up to
+pub record LoadWords (card plan words : List ℕ) : Type 0 where
+  pub answer : words ≡ loadWords (loadCall card plan)
+  pub sum : (counts : List ℕ) → words ≡ 0 ∷ counts → added counts ≡ placesIn plan
 
 -- the words and the lent bytes after a run; `agreed` is demand 3
 pub record RunWords (card plan inputs : List ℕ) (X : ℕ) (table lent after words : List ℕ) : Type 0 where

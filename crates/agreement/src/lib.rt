@@ -1,5 +1,6 @@
 // The C interface: a static library that a server in C or Rust links. Every answer is a row of
 // words that the caller lends and this library fills; no call asks anything of its arguments.
+use load::Loaded;
 use network::card;
 use network::card::Reading;
 use network::links;
@@ -17,7 +18,7 @@ use server::turn;
 use server::turn::Outcome;
 use two_way::QuickAnswer;
 ghost use mathlib.Core.Path.{_≡_};
-ghost use mathlib.Core.List.{_++_};
+ghost use mathlib.Core.List.{_∷_, _++_};
 ghost use Rattle.refusal.specs.Refused.{refusalOf};
 ghost use Rattle.network.specs.Card.{readCard};
 ghost use Rattle.network.specs.Links.{linkedIn};
@@ -26,7 +27,7 @@ ghost use Rattle.network.specs.Split.{splitTest};
 ghost use Rattle.plan.specs.Check.{totals, checkPlan};
 ghost use Rattle.part.specs.Calls.{startCall, commitCall};
 ghost use Rattle.server.specs.Answers.{stateOf, verdictOf};
-ghost use Rattle.agreement.specs.Words.{refusedWords, cardWords, PrintWords, splitWords, QuickWords, planWords, RunWords, stateFrom, stateWords, steppedWords, AskWords};
+ghost use Rattle.agreement.specs.Words.{refusedWords, cardWords, PrintWords, splitWords, QuickWords, planWords, LoadWords, RunWords, stateFrom, stateWords, steppedWords, AskWords};
 ghost use Rattle.agreement.specs.Version.{version};
 
 // The version of this library: 1,000,000 * major + 1,000 * minor + patch.
@@ -34,7 +35,7 @@ ghost use Rattle.agreement.specs.Version.{version};
 pub extern "C" fn agreement_version() -> u64
     ensures { λ r. ⌜ r ≡ version ⌝ }
 {
-    5_000
+    6_000
 }
 
 // 2, what is at fault, the refusal's number, its place.
@@ -171,6 +172,43 @@ pub extern "C" fn agreement_check_plan(card: &[u8], plan: &[u8], answer: &mut [u
         Checked::Refused(r) => {
             let words = refused_words(r);
             *answer = words;
+        }
+    }
+}
+
+// 0 and the eight counts.
+fn load_words(counts: [usize; 8]) -> [u64; 9]
+    ensures { λ w. ⌜ w ≡ 0 ∷ counts ⌝ }
+{
+    [
+        0,
+        counts[0] as u64,
+        counts[1] as u64,
+        counts[2] as u64,
+        counts[3] as u64,
+        counts[4] as u64,
+        counts[5] as u64,
+        counts[6] as u64,
+        counts[7] as u64,
+    ]
+}
+
+// The load on each relay. The answer is 0 and for each of the eight servers how many routes of the
+// plan it relays; or 2, what is at fault, the refusal's number, its place and five zeros.
+#[no_mangle]
+pub extern "C" fn agreement_load(card: &[u8], plan: &[u8], answer: &mut [u64; 9])
+    ensures { λ r. ⌜ LoadWords (now (card .entry)) (now (plan .entry)) (now (answer .exit)) ⌝ }
+{
+    let mut counts = [0usize; 8];
+    let loaded = load::load(card, plan, &mut counts);
+    match loaded {
+        Loaded::Counted => {
+            let words = load_words(counts);
+            *answer = words;
+        }
+        Loaded::Refused(r) => {
+            let head = refused_words(r);
+            *answer = [head[0], head[1], head[2], head[3], 0, 0, 0, 0, 0];
         }
     }
 }

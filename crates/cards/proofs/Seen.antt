@@ -10,6 +10,7 @@ use Rattle.network.proofs.Accepted.{accepted-short}
 use Rattle.network.proofs.Networks.{network-accepted}
 use Rattle.two_way.specs.Quick.{quickTest}
 use Rattle.plan.specs.Check.{checkPlan}
+use Rattle.load.specs.Load.{loadCall}
 use Rattle.steps.specs.Run.{runPlan, lentAfter}
 use Rattle.part.specs.Calls.{siteOf, startCall, askCall, commitCall}
 use Rattle.network.specs.Print.{wholeCard, cleanCard, printInto, printedIn}
@@ -17,7 +18,7 @@ use Rattle.cards.specs.Twins.{unplaced, Alike, SeenOnce}
 use Rattle.cards.proofs.Whole.{whole-same}
 
 pub read-alike : (s t : List ℕ) → readCard s ≡ readCard t → Alike s t
-unfolding printInto printedIn cleanCard splitTest quickTest checkPlan runPlan lentAfter siteOf startCall askCall commitCall
+unfolding printInto printedIn cleanCard splitTest quickTest checkPlan loadCall runPlan lentAfter siteOf startCall askCall commitCall
 read-alike s t e =
     record {
       read = e;
@@ -26,6 +27,7 @@ read-alike s t e =
       split = rw e refl;
       quick = rw e refl;
       check = λ plan. rw e refl;
+      load = λ plan. rw e refl;
       run = λ plan inputs faulty lent. rw e refl;
       bytes = λ plan inputs faulty table lent. rw e refl;
       start = λ plan server input. rw e refl;

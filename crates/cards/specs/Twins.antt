@@ -3,8 +3,8 @@
 --     Again       <-> a link command given again, anywhere after the first and whatever follows it, changes nothing; a fault behind it stands three
 --                     bytes later
 --     SetAlone    <-> two whole cards with one n, f and set of links give the same, but for the place of a refusal
---     SeenOnce    <-> reading, printing, split test, quick test, plan check, run, and a server's start, ask and commit give the same for two such cards
---                     that are read
+--     SeenOnce    <-> reading, printing, split test, quick test, plan check, load, run, and a server's start, ask and commit give the same for two such
+--                     cards that are read
 use mathlib.Core.Path.{_≡_}
 use mathlib.Core.Bool.{cond}
 use mathlib.Core.List.{List, [], _∷_, _++_, List·Memᴰ}
@@ -18,6 +18,7 @@ use Rattle.network.specs.Split.{splitTest}
 use Rattle.network.specs.Print.{Link, cardBytes, wholeCard, printInto, printedIn}
 use Rattle.two_way.specs.Quick.{quickTest}
 use Rattle.plan.specs.Check.{checkPlan}
+use Rattle.load.specs.Load.{loadCall}
 use Rattle.steps.specs.Run.{runPlan, lentAfter}
 use Rattle.part.specs.State.{State}
 use Rattle.part.specs.Calls.{startCall, askCall, commitCall}
@@ -52,6 +53,7 @@ pub record Alike (s t : List ℕ) : Type 0 where
   pub split : splitTest s ≡ splitTest t
   pub quick : quickTest s ≡ quickTest t
   pub check : (plan : List ℕ) → checkPlan s plan ≡ checkPlan t plan
+  pub load : (plan : List ℕ) → loadCall s plan ≡ loadCall t plan
   pub run : (plan inputs : List ℕ) (faulty : ℕ) (lent : List ℕ) → runPlan s plan inputs faulty lent ≡ runPlan t plan inputs faulty lent
   pub bytes : (plan inputs : List ℕ) (faulty : ℕ) (table lent : List ℕ) → lentAfter s plan inputs faulty table lent ≡ lentAfter t plan inputs faulty table lent
   pub start : (plan : List ℕ) (server input : ℕ) → startCall s plan server input ≡ startCall t plan server input

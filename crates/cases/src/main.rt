@@ -9,6 +9,7 @@
 //     b CARD BUFFER                            the words of the card printed back, and the lent bytes
 //                                              after it
 //     p CARD PLAN                              the words of the plan check
+//     l CARD PLAN                              the words of the load on each relay
 //     r CARD PLAN INPUTS FAULTY TABLE BUFFER   the words of the run, and the lent bytes after it
 //     t CARD PLAN RUN                          what rehearse prints
 //     o CARD PLAN SERVER INPUT                 the words of a server's start
@@ -133,6 +134,15 @@ fn plan_case(card: &[u8], plan: &[u8]) {
     let mut answer = [9u64; 4];
     agreement::agreement_check_plan(card, plan, &mut answer);
     print_words(answer);
+    end_line();
+}
+
+fn load_case(card: &[u8], plan: &[u8]) {
+    let mut answer = [9u64; 9];
+    agreement::agreement_load(card, plan, &mut answer);
+    for i in 0..9usize {
+        print_word(answer[i]);
+    }
     end_line();
 }
 
@@ -282,6 +292,10 @@ fn answer_case(kind: u8, s: &[u8]) -> &[u8]
     }
     if kind == 112 {
         plan_case(card, plan);
+        return second;
+    }
+    if kind == 108 {
+        load_case(card, plan);
         return second;
     }
     let inputs = part(second);
