@@ -9,7 +9,7 @@ use std::ops::Range;
 
 /// Where a number, written `№`, is not held: what a number there means is no answer of
 /// the library.
-const NOT_HELD: [&str; 31] = [
+const NOT_HELD: [&str; 32] = [
     // Names: of theorems and demands, of the paper's cases, of the steps of a block, of
     // rules by their place in a list, of must-fail edits, of bits and bytes.
     "Theorem №",
@@ -24,6 +24,7 @@ const NOT_HELD: [&str; 31] = [
     "step-№-late",
     "numbered-from-№",
     "buffer-of-№",
+    "-without-№",
     "x86-№",
     "UTF-№",
     // P8 and P9 are about a single step. They are proved, in crates/table.

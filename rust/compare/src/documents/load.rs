@@ -1,5 +1,5 @@
-//! The load on each relay, as header and docs/FORMATS.md tell of it, beside what the library
-//! answers.
+//! The load on each relay, as header, docs/FORMATS.md and docs/THEOREMS.md tell of it, beside
+//! what the library answers.
 
 use super::library::*;
 use super::numbers::{listed, quoted, word};
@@ -72,5 +72,8 @@ pub fn stated(documents: &Documents) -> Held {
         ),
         "The counts from server n on are 0.".to_string(),
         sum,
-    ])
+    ])?;
+    documents
+        .theorems
+        .says("the counts of servers from n on are 0")
 }
