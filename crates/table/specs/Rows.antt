@@ -18,6 +18,9 @@ use Rattle.two_way.specs.Quick as Quick
 use Rattle.plan.specs.Check
 use Rattle.rules.specs.Blocks.{Carriage, Block, carriageOf, decodePlan}
 use Rattle.rules.specs.Theorems.{Accepted}
+use Rattle.load.specs.Load.{Load, counted, loadCall}
+use Rattle.load.specs.Load as Load
+use Rattle.load.specs.Places.{placesIn}
 use Rattle.steps.specs.Steps.{held, gather, compare}
 use Rattle.steps.specs.Run.{runPlan, lentAfter}
 use Rattle.part.specs.State.{State}
@@ -56,6 +59,11 @@ abbrev pub totalsValues : Check.Totals → List ℕ
 totalsValues (Check.totals blocks carriages) = 1 ∷ blocks ∷ carriages ∷ []
 totalsValues (Check.turned r) = 0 ∷ refusedValues r
 
+-- 1 and the eight counts; or 0 and the refusal
+abbrev pub loadValues : Load → List ℕ
+loadValues (counted counts) = 1 ∷ counts
+loadValues (Load.turned r) = 0 ∷ refusedValues r
+
 -- block, kind, v, t, and 1 where an ask is open
 abbrev pub stateValues : State → List ℕ
 stateValues s = s .block ∷ s .kind ∷ s .v ∷ s .t ∷ s .asked ∷ []
@@ -80,6 +88,8 @@ pub data Call : Type 0 where
   splits : (card : List ℕ) → Call
   quicks : (card : List ℕ) → Call
   checks : (card plan : List ℕ) → Call
+  loads : (card plan : List ℕ) → Call
+  places : (plan : List ℕ) → Call
   runs : (card plan inputs : List ℕ) → (faulty : ℕ) → (table lent : List ℕ) → Call
   starts : (card plan : List ℕ) → (server input : ℕ) → Call
   asks : (card plan : List ℕ) → (server : ℕ) → (state : State) → (lent : List ℕ) → Call
@@ -95,6 +105,8 @@ given (prints s lent) = printValues (printInto s lent) ++ printedIn s lent
 given (splits s) = splitValues (splitTest s)
 given (quicks s) = quickValues (quickTest s)
 given (checks s p) = totalsValues (Check.checkPlan s p)
+given (loads s p) = loadValues (loadCall s p)
+given (places p) = placesIn p ∷ []
 given (runs s p inputs faulty table lent) = totalsValues (runPlan s p inputs faulty lent) ++ lentAfter s p inputs faulty table lent
 given (starts s p i x) = steppedValues (startCall s p i x)
 given (asks s p i state lent) = askedValues (askCall s p i state lent) lent
@@ -182,6 +194,17 @@ P3-blocks =
     ++ opening 0x00 0x03 0x03 ++ direct 0x12 ((1, 0) ∷ (0, 1) ∷ []) ++ direct 0x13 ((0, 2) ∷ (1, 2) ∷ [])
     ++ opening 0x00 0x05 0x05 ++ direct 0x12 ((2, 0) ∷ (0, 2) ∷ []) ++ direct 0x13 ((0, 1) ∷ (2, 1) ∷ [])
 
+-- three servers in a row, f 0
+abbrev pub line-card : List ℕ
+line-card = 0x01 ∷ 0x03 ∷ 0x00 ∷ (linksFrom 0 (1 ∷ []) ++ linksFrom 1 (2 ∷ []) ++ 0x03 ∷ [])
+
+-- its routes from server 0, the second over server 1
+abbrev pub line-routes : List ℕ
+line-routes = direct 0x13 ((0, 1) ∷ []) ++ (0x13 ∷ 0x00 ∷ 0x01 ∷ 0x02 ∷ 0xff ∷ 0xff ∷ 0xff ∷ 0xff ∷ 0xff ∷ [])
+
+abbrev pub line-plan : List ℕ
+line-plan = opening 0x00 0x01 0x01 ++ line-routes ++ opening 0x00 0x03 0x01 ++ line-routes ++ opening 0x00 0x05 0x01 ++ line-routes ++ (0x15 ∷ [])
+
 -- an accepted plan for the network of P4, f 1: 19 blocks
 abbrev pub P4-plan : List ℕ
 P4-plan =
@@ -252,6 +275,11 @@ table =
     ∷ row "an empty card is refused 2 at place 0" (reads []) (0 ∷ 0 ∷ 2 ∷ 0 ∷ [])
     ∷ row "P5 is accepted: 1 block, 1 carriage" (checks P1-card P5-plan) (1 ∷ 1 ∷ 1 ∷ [])
     ∷ row "P6 is refused 7 at place 4, since a 11 route is due" (checks P1-card P6-plan) (0 ∷ 1 ∷ 7 ∷ 4 ∷ [])
+    ∷ row "server 1 relays a route in each block, and no source or receiver relays one" (loads line-card line-plan) (1 ∷ 0 ∷ 3 ∷ 0 ∷ 0 ∷ 0 ∷ 0 ∷ 0 ∷ 0 ∷ [])
+    ∷ row "so its bytes have three relaying places" (places line-plan) (3 ∷ [])
+    ∷ row "the members of N relay nothing" (loads P4-card P4-plan) (1 ∷ 0 ∷ 0 ∷ 0 ∷ 0 ∷ 0 ∷ 0 ∷ 0 ∷ 0 ∷ [])
+    ∷ row "the load of a refused plan is its refusal" (loads P1-card P6-plan) (0 ∷ 1 ∷ 7 ∷ 4 ∷ [])
+    ∷ row "a card's refusal comes before the plan's" (loads [] P6-plan) (0 ∷ 0 ∷ 2 ∷ 0 ∷ [])
     ∷ row "P7: both decide 1" (runs P1-card P5-plan (1 ∷ 0 ∷ []) 0 [] (9 ∷ 9 ∷ [])) (1 ∷ 1 ∷ 1 ∷ 1 ∷ 1 ∷ [])
     ∷ row "later bytes of the lent buffer are untouched" (runs P1-card P5-plan (0 ∷ 1 ∷ []) 0 [] (9 ∷ 9 ∷ 9 ∷ [])) (1 ∷ 1 ∷ 1 ∷ 0 ∷ 0 ∷ 9 ∷ [])
     ∷ row "P8: at f 1 the arrivals 0 and missing, of faulty server 1, come to 2"
