@@ -513,6 +513,8 @@ static int call_all(struct files files)
     fresh |= is_new(checked, 2);
     agreement_load(card, files.card.length, plan, files.plan.length, load);
     fresh |= is_new(load, 6);
+    fresh |= is_new(load + 4, 7);
+    fresh |= is_new(load + 5, 8);
     hold_load(load, files.plan, network, checked);
     relayed += load[0] == AGREEMENT_ANSWERED && relaying_places(files.plan) > 0;
     call_own(files, network, checked);

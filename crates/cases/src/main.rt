@@ -9,6 +9,8 @@
 //     b CARD BUFFER                            the words of the card printed back, and the lent bytes
 //                                              after it
 //     p CARD PLAN                              the words of the plan check
+//     w SITE OPERAND                           the set of a route's servers, and the servers as they
+//                                              are handed back
 //     l CARD PLAN                              the words of the load on each relay
 //     r CARD PLAN INPUTS FAULTY TABLE BUFFER   the words of the run, and the lent bytes after it
 //     t CARD PLAN RUN                          what rehearse prints
@@ -142,6 +144,27 @@ fn load_case(card: &[u8], plan: &[u8]) {
     agreement::agreement_load(card, plan, &mut answer);
     for i in 0..9usize {
         print_word(answer[i]);
+    }
+    end_line();
+}
+
+// The site is V−F, the eight rows of links, the sources and the receiver, a byte each.
+fn route_case(site: &[u8], operand: &[u8]) {
+    if 11 <= site.len() {
+        let rows = [
+            site[1],
+            site[2],
+            site[3],
+            site[4],
+            site[5],
+            site[6],
+            site[7],
+            site[8],
+        ];
+        let set = route::check_route(site[0], &rows, site[9], site[10], operand);
+        let servers = route::route_part(site[0], &rows, site[9], site[10], operand);
+        print_byte(set);
+        print_bytes(servers);
     }
     end_line();
 }
@@ -296,6 +319,11 @@ fn answer_case(kind: u8, s: &[u8]) -> &[u8]
     }
     if kind == 108 {
         load_case(card, plan);
+        return second;
+    }
+    if kind == 119 {
+        // its parts are a site and an operand
+        route_case(card, plan);
         return second;
     }
     let inputs = part(second);

@@ -30,7 +30,7 @@ fn has_route(command: u8) -> bool
     command < 20
 }
 
-// One more for the server; a byte past the eighth server is none.
+// One more for the server; a byte past the eighth server is none. A count has room for one more.
 fn add_one(counts: &mut [usize; 8], server: u8)
     requires { ⌜ Room 18446744073709551614 (now counts) ⌝ }
     ensures { λ r. ⌜ Adds (λ (i : ℕ). cond (eqb server i) 1 0) (now (counts .entry)) (now (counts .exit)) ⌝ }
@@ -42,7 +42,8 @@ fn add_one(counts: &mut [usize; 8], server: u8)
 }
 
 // One more for each relay of a route: for each byte after the source's that has a server next. The
-// receiver has none next, for the fill follows it or it is the eighth byte.
+// receiver has none next, for the fill follows it or it is the eighth byte. No count passes the
+// route's place in the plan, and no list has 2^63 bytes, so there is room for six more.
 fn add_relays(counts: &mut [usize; 8], operand: &[u8])
     requires { ⌜ (8 ≤ length (now operand)) × Room 9223372036854775808 (now counts) ⌝ }
     ensures { λ r. ⌜ Adds (λ (i : ℕ). between i (drop 1 (take 8 (now (operand .entry))))) (now (counts .entry)) (now (counts .exit)) ⌝ }

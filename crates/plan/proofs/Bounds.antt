@@ -17,7 +17,7 @@ use Rattle.sets.specs.Sets.{meet, minus, full, within, single}
 use Rattle.network.specs.Links.{Links}
 use Rattle.plan.specs.Members.{members}
 use Rattle.plan.specs.Due.{DueBlock, Group, blocksOf, fan, toOne, pairs, routesDue}
-use Rattle.route.specs.Route.{isRoute, path, serversOf}
+use Rattle.route.specs.Route.{routeSet}
 use Rattle.route.specs.Commands.{width, isCut}
 use Rattle.plan.specs.Check.{Progress, reached, stopped, andThen, onward, isDue, isReport, routeAt, checkGroup, checkGroups, checkReports, checkBlock, checkBlocks}
 use Rattle.plan.specs.Answers.{progressOf, groupOf}
@@ -91,45 +91,46 @@ module _ {m len : ℕ} {step : ℕ → ℕ → ℕ → Progress} {xs : List ℕ}
       pub walking-moves : Bound m len (step x at carriages) → {a c : ℕ} → y ≡ Code.Progress.Reached a c → Walking m len step ys whole a c
       walking-moves b r = walking-goes b (sym z ∙ ap progressOf r)
 
-module _ (n : ℕ) (links : Links) (F : ℕ) (s : List ℕ) where
+module _ (W : ℕ) (links : Links) (s : List ℕ) where
   pub group-bound : (g : Group) → width (g .command) ≡ 9 → (k at carriages used : ℕ) → at ≤ length s → carriages ≤ 1 * at
-      → Bound 1 (length s) (checkGroup n links F s g k at carriages used)
+      → Bound 1 (length s) (checkGroup W links s g k at carriages used)
   unfolding checkGroup
   group-bound g w zero at carriages used p q = (p, q)
   group-bound g w (suc k) at carriages used p q =
       due-bound 1 s at (g .command) _ p
       (λ e f. let z = whole-command s at 9 e (ap width f ∙ w) in
-      by-cond (Bound 1 (length s)) (not (isRoute (minus (full n) F) links (g .sources) (g .receiver) (routeAt s at))) _ _ (λ t. (omega arith, p))
-      (λ t. by-cond (Bound 1 (length s)) (not (eqb (meet used (minus (serversOf (path (routeAt s at))) (single (g .receiver)))) 0)) _ _ (λ u. (omega arith, p)) (λ u. group-bound g w k (at + 9) (carriages + 1) _ (omega arith) (omega arith))))
+      by-cond (Bound 1 (length s)) (eqb (routeSet W links (g .sources) (g .receiver) (drop (at + 1) s)) 0) _ _ (λ t. (omega arith, p))
+      (λ t. by-cond (Bound 1 (length s)) (not (eqb (meet used (minus (routeSet W links (g .sources) (g .receiver) (drop (at + 1) s)) (single (g .receiver)))) 0)) _ _ (λ u. (omega arith, p)) (λ u. group-bound g w k (at + 9) (carriages + 1) _ (omega arith) (omega arith))))
 
-  pub receiver-bound : (f command sources : ℕ) → width command ≡ 9 → (r a c : ℕ) → a ≤ length s → c ≤ 1 * a → Bound 1 (length s) (fanStep n links F s f command sources r a c)
+  pub receiver-bound : (f command sources : ℕ) → width command ≡ 9 → (r a c : ℕ) → a ≤ length s → c ≤ 1 * a → Bound 1 (length s) (fanStep W links s f command sources r a c)
   unfolding fanStep
   receiver-bound f command sources w r a c p q = group-bound (groupOf command sources r (f + 1)) w (f + 1) a c 0 p q
 
   pub fan-bound : (f command sources : ℕ) → width command ≡ 9 → (rs : List ℕ) (at carriages : ℕ) → at ≤ length s → carriages ≤ 1 * at
-      → Bound 1 (length s) (checkGroups n links F s (fan f command sources rs) at carriages)
+      → Bound 1 (length s) (checkGroups W links s (fan f command sources rs) at carriages)
   fan-bound f command sources w rs at carriages p q =
-      rw (fan-walk n links F s f command sources rs at carriages)
-      (walk-bound 1 (length s) (fanStep n links F s f command sources) (receiver-bound f command sources w) rs at carriages p q)
+      rw (fan-walk W links s f command sources rs at carriages)
+      (walk-bound 1 (length s) (fanStep W links s f command sources) (receiver-bound f command sources w) rs at carriages p q)
 
-  pub toOne-bound : (r x a c : ℕ) → a ≤ length s → c ≤ 1 * a → Bound 1 (length s) (toOneStep n links F s r x a c)
+  pub toOne-bound : (r x a c : ℕ) → a ≤ length s → c ≤ 1 * a → Bound 1 (length s) (toOneStep W links s r x a c)
   unfolding toOneStep width
   toOne-bound r x a c p q = by-cond (Bound 1 (length s)) (eqb x r) _ _ (λ e. (p, q)) (λ e. group-bound _ refl 1 a c 0 p q)
 
   pub row-bound : (r : ℕ) (ss : List ℕ) (at carriages : ℕ) → at ≤ length s → carriages ≤ 1 * at
-      → Bound 1 (length s) (checkGroups n links F s (toOne r ss) at carriages)
+      → Bound 1 (length s) (checkGroups W links s (toOne r ss) at carriages)
   row-bound r ss at carriages p q =
-      rw (toOne-walk n links F s r ss at carriages) (walk-bound 1 (length s) (toOneStep n links F s r) (toOne-bound r) ss at carriages p q)
+      rw (toOne-walk W links s r ss at carriages) (walk-bound 1 (length s) (toOneStep W links s r) (toOne-bound r) ss at carriages p q)
 
-  pub rows-bound : (ss : List ℕ) (r a c : ℕ) → a ≤ length s → c ≤ 1 * a → Bound 1 (length s) (rowStep n links F s ss r a c)
+  pub rows-bound : (ss : List ℕ) (r a c : ℕ) → a ≤ length s → c ≤ 1 * a → Bound 1 (length s) (rowStep W links s ss r a c)
   unfolding rowStep
   rows-bound ss r a c p q = row-bound r ss a c p q
 
   pub pairs-bound : (ss rs : List ℕ) (at carriages : ℕ) → at ≤ length s → carriages ≤ 1 * at
-      → Bound 1 (length s) (checkGroups n links F s (pairs ss rs) at carriages)
+      → Bound 1 (length s) (checkGroups W links s (pairs ss rs) at carriages)
   pairs-bound ss rs at carriages p q =
-      rw (pairs-walk n links F s ss rs at carriages) (walk-bound 1 (length s) (rowStep n links F s ss) (rows-bound ss) rs at carriages p q)
+      rw (pairs-walk W links s ss rs at carriages) (walk-bound 1 (length s) (rowStep W links s ss) (rows-bound ss) rs at carriages p q)
 
+module _ (n : ℕ) (links : Links) (F : ℕ) (s : List ℕ) where
   report-bound : (f : ℕ) → f < 256 → (k a c : ℕ) → a ≤ length s → c ≤ 256 * a → Bound 256 (length s) (reportStep n links F s f k a c)
   unfolding reportStep width
   report-bound f h k a c p q =
@@ -143,17 +144,17 @@ module _ (n : ℕ) (links : Links) (F : ℕ) (s : List ℕ) where
       rw (reports-walk n links F s f ks at carriages) (walk-bound 256 (length s) (reportStep n links F s f) (report-bound f h) ks at carriages p q)
 
   inward-bound : (f A S at : ℕ) → at ≤ length s
-      → Bound 1 (length s) (checkGroups n links F s (fan f 0x11 A (members (minus S A)) ++ pairs (members S) (members S)) at 0)
+      → Bound 1 (length s) (checkGroups (minus (full n) F) links s (fan f 0x11 A (members (minus S A)) ++ pairs (members S) (members S)) at 0)
   unfolding width
   inward-bound f A S at p =
-      rw (groups-append n links F s (fan f 0x11 A (members (minus S A))) (pairs (members S) (members S)) at 0)
-      (then-bound 1 (length s) (checkGroups n links F s (fan f 0x11 A (members (minus S A))) at 0) (λ (a c : ℕ). checkGroups n links F s (pairs (members S) (members S)) a c) (fan-bound f 0x11 A refl (members (minus S A)) at 0 p (omega arith)) (λ a c p′ q′. pairs-bound (members S) (members S) a c p′ q′))
+      rw (groups-append (minus (full n) F) links s (fan f 0x11 A (members (minus S A))) (pairs (members S) (members S)) at 0)
+      (then-bound 1 (length s) (checkGroups (minus (full n) F) links s (fan f 0x11 A (members (minus S A))) at 0) (λ (a c : ℕ). checkGroups (minus (full n) F) links s (pairs (members S) (members S)) a c) (fan-bound (minus (full n) F) links s f 0x11 A refl (members (minus S A)) at 0 p (omega arith)) (λ a c p′ q′. pairs-bound (minus (full n) F) links s (members S) (members S) a c p′ q′))
 
-  pub routes-bound : (f A S at : ℕ) → at ≤ length s → Bound 1 (length s) (checkGroups n links F s (routesDue n f F A S) at 0)
+  pub routes-bound : (f A S at : ℕ) → at ≤ length s → Bound 1 (length s) (checkGroups (minus (full n) F) links s (routesDue n f F A S) at 0)
   unfolding routesDue width
   routes-bound f A S at p =
-      rw (groups-append n links F s (fan f 0x11 A (members (minus S A)) ++ pairs (members S) (members S)) (fan f 0x13 S (members (minus (minus (full n) F) S))) at 0)
-      (then-bound 1 (length s) (checkGroups n links F s (fan f 0x11 A (members (minus S A)) ++ pairs (members S) (members S)) at 0) (λ (a c : ℕ). checkGroups n links F s (fan f 0x13 S (members (minus (minus (full n) F) S))) a c) (inward-bound f A S at p) (λ a c p′ q′. fan-bound f 0x13 S refl (members (minus (minus (full n) F) S)) a c p′ q′))
+      rw (groups-append (minus (full n) F) links s (fan f 0x11 A (members (minus S A)) ++ pairs (members S) (members S)) (fan f 0x13 S (members (minus (minus (full n) F) S))) at 0)
+      (then-bound 1 (length s) (checkGroups (minus (full n) F) links s (fan f 0x11 A (members (minus S A)) ++ pairs (members S) (members S)) at 0) (λ (a c : ℕ). checkGroups (minus (full n) F) links s (fan f 0x13 S (members (minus (minus (full n) F) S))) a c) (inward-bound f A S at p) (λ a c p′ q′. fan-bound (minus (full n) F) links s f 0x13 S refl (members (minus (minus (full n) F) S)) a c p′ q′))
 
 module _ (n f : ℕ) (links : Links) (h : f < 256) where
   pub block-bound : (s : List ℕ) (d : DueBlock) → Bound 256 (length s) (checkBlock n f links s d)
@@ -163,7 +164,7 @@ module _ (n f : ℕ) (links : Links) (h : f < 256) where
       (λ e g. let z = whole-command s 0 4 e (ap width g) in
       by-cond (Bound 256 (length s)) (eqb (getD s 1 0) (d .faults) && (eqb (getD s 2 0) (d .part) || eqb (getD s 2 0) (minus (minus (full n) (d .faults)) (d .part)))) _ _
       (λ t. by-cond (Bound 256 (length s)) (not (eqb (getD s 3 0) 0) && within (getD s 3 0) (minus (full n) (d .faults))) _ _
-      (λ u. then-bound 256 (length s) (checkGroups n links (getD s 1 0) s (routesDue n f (getD s 1 0) (getD s 2 0) (getD s 3 0)) 4 0) (λ (a c : ℕ). checkReports n f links (getD s 1 0) s (members (getD s 1 0)) a c) (bound-more (length s) (checkGroups n links (getD s 1 0) s (routesDue n f (getD s 1 0) (getD s 2 0) (getD s 3 0)) 4 0) (routes-bound n links (getD s 1 0) s f (getD s 2 0) (getD s 3 0) 4 (omega arith))) (λ a c p q. reports-bound n links (getD s 1 0) s f h (members (getD s 1 0)) a c p q))
+      (λ u. then-bound 256 (length s) (checkGroups (minus (full n) (getD s 1 0)) links s (routesDue n f (getD s 1 0) (getD s 2 0) (getD s 3 0)) 4 0) (λ (a c : ℕ). checkReports n f links (getD s 1 0) s (members (getD s 1 0)) a c) (bound-more (length s) (checkGroups (minus (full n) (getD s 1 0)) links s (routesDue n f (getD s 1 0) (getD s 2 0) (getD s 3 0)) 4 0) (routes-bound n links (getD s 1 0) s f (getD s 2 0) (getD s 3 0) 4 (omega arith))) (λ a c p q. reports-bound n links (getD s 1 0) s f h (members (getD s 1 0)) a c p q))
       (λ u. (omega arith, omega arith)))
       (λ t. (omega arith, omega arith)))
 

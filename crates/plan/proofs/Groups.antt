@@ -8,22 +8,20 @@
 use mathlib.Core.Path.{_≡_, refl, sym, ap, _∙_}
 use mathlib.Core.Bool.{Bool, true, false, cond, not, _&&_, and-false}
 use mathlib.Core.List.{List}
-use Prim.Native.Nat.{ℕ, suc, min, _+_, _-_, _^_, _≤_, _<_}
+use Prim.Native.Nat.{ℕ, suc, _+_, _-_, _≤_, _<_}
 use native.Mathlib.Omega.{arith}
 use lib.ListN.{length, getD, take, drop, length-drop}
 use lib.Seq.{take-all}
 use lib.Dec.{eqb, ltb}
-use lib.Pow.{pow-mono}
 use borrow.Author.Tests.{lt-ltb, le-ltb, eq-eqb, ne-eqb, eqb-true, ltb-false}
 use Rattle.facts.proofs.Bools.{cases, clash, and-left, and-right, not-true}
-use Rattle.sets.specs.Sets.{union, meet, minus, single, full}
-use Rattle.sets.proofs.Members.{meet-nothing, minus-small, full-small}
+use Rattle.sets.specs.Sets.{union, meet, minus, single}
+use Rattle.sets.proofs.Members.{meet-nothing}
 use Rattle.network.specs.Links.{Links}
 use Rattle.plan.specs.Due.{Group}
-use Rattle.route.specs.Route.{path, serversOf, isRoute, routeSet}
+use Rattle.route.specs.Route.{routeSet}
 use Rattle.route.specs.Commands.{width, isCut}
-use Rattle.plan.specs.Check.{Progress, reached, stopped, isDue, routeAt, checkGroup}
-use Rattle.route.proofs.Walks.{set-none, set-route, set-is}
+use Rattle.plan.specs.Check.{Progress, reached, stopped, isDue, checkGroup}
 
 -- a command that is not cut off has its operands
 pub whole-command : (s : List ℕ) (at w : ℕ) → isCut s at ≡ false → width (getD s at 0) ≡ w → (at < length s) × (w ≤ length s - at)
@@ -78,28 +76,29 @@ module _ (s : List ℕ) (at command : ℕ) (wide : width command ≡ 9) where
 -- Three points of the test of a route that k routes follow. At each, what is left to test gives the answer `whole`.
 
 abbrev pub Point : Type 1
-Point = (n : ℕ) (links : Links) (F : ℕ) (s : List ℕ) (g : Group) (k at carriages used : ℕ) (whole : Progress) → Type 0
+Point = (W : ℕ) (links : Links) (s : List ℕ) (g : Group) (k at carriages used : ℕ) (whole : Progress) → Type 0
 
-module _ (n : ℕ) (links : Links) (F : ℕ) (s : List ℕ) (g : Group) (k at carriages used : ℕ) (whole : Progress) where
+module _ (W : ℕ) (links : Links) (s : List ℕ) (g : Group) (k at carriages used : ℕ) (whole : Progress) where
   -- all of the route is to test
   pub record FromCommand : Type 0 where
-    pub gives : checkGroup n links F s g (suc k) at carriages used ≡ whole
+    pub gives : checkGroup W links s g (suc k) at carriages used ≡ whole
 
   -- its command is the one due, and the rules for one route are next
   pub record FromRoute : Type 0 where
     pub long : at + 9 ≤ length s
-    pub gives : let others = minus (serversOf (path (routeAt s at))) (single (g .receiver)) in
-        cond (not (isRoute (minus (full n) F) links (g .sources) (g .receiver) (routeAt s at))) (stopped 9 at)
-        (cond (not (eqb (meet used others) 0)) (stopped 10 at) (checkGroup n links F s g k (at + 9) (carriages + 1) (union used others)))
+    pub gives : let servers = routeSet W links (g .sources) (g .receiver) (drop (at + 1) s) in
+        let others = minus servers (single (g .receiver)) in
+        cond (eqb servers 0) (stopped 9 at)
+        (cond (not (eqb (meet used others) 0)) (stopped 10 at) (checkGroup W links s g k (at + 9) (carriages + 1) (union used others)))
         ≡ whole
 
 -- it is sound, `others` are its servers but for the receiver, and what it shares is next
-pub record FromSharing (others n : ℕ) (links : Links) (F : ℕ) (s : List ℕ) (g : Group) (k at carriages used : ℕ) (whole : Progress) : Type 0 where
+pub record FromSharing (others W : ℕ) (links : Links) (s : List ℕ) (g : Group) (k at carriages used : ℕ) (whole : Progress) : Type 0 where
   pub long : at + 9 ≤ length s
-  pub gives : cond (not (eqb (meet used others) 0)) (stopped 10 at) (checkGroup n links F s g k (at + 9) (carriages + 1) (union used others)) ≡ whole
+  pub gives : cond (not (eqb (meet used others) 0)) (stopped 10 at) (checkGroup W links s g k (at + 9) (carriages + 1) (union used others)) ≡ whole
 
-module _ {n : ℕ} {links : Links} {F : ℕ} {s : List ℕ} {g : Group} {k at carriages used : ℕ} {whole : Progress} where
-  module _ (t : FromCommand n links F s g k at carriages used whole) {b : Bool} (p : b ≡ (not (isCut s at) && eqb (getD s at 0) (g .command))) where
+module _ {W : ℕ} {links : Links} {s : List ℕ} {g : Group} {k at carriages used : ℕ} {whole : Progress} where
+  module _ (t : FromCommand W links s g k at carriages used whole) {b : Bool} (p : b ≡ (not (isCut s at) && eqb (getD s at 0) (g .command))) where
     -- cut off, or another command
     pub group-other : b ≡ false → {number place : ℕ} → (number ≡ cond (isCut s at) 2 7) × (place ≡ at) → stopped number place ≡ whole
     unfolding checkGroup isDue
@@ -109,7 +108,7 @@ module _ {n : ℕ} {links : Links} {F : ℕ} {s : List ℕ} {g : Group} {k at ca
         (λ c. simp c (sym (simp c) ∙ t .gives))
         (λ c. let o : eqb (getD s at 0) (g .command) ≡ false = sym (simp c) ∙ sym p ∙ f in simp c (sym (simp (c, o)) ∙ t .gives)))
 
-    pub group-due : b ≡ true → width (g .command) ≡ 9 → FromRoute n links F s g k at carriages used whole
+    pub group-due : b ≡ true → width (g .command) ≡ 9 → FromRoute W links s g k at carriages used whole
     unfolding checkGroup isDue
     group-due e w =
         let both = sym p ∙ e in
@@ -118,46 +117,30 @@ module _ {n : ℕ} {links : Links} {F : ℕ} {s : List ℕ} {g : Group} {k at ca
         let z = whole-command s at 9 c (ap width (eqb-true _ _ q) ∙ w) in
         record { long = omega arith; gives = sym (simp (c, q)) ∙ t .gives }
 
-  module _ (t : FromRoute n links F s g k at carriages used whole) (few : n ≤ 8) {servers W set : ℕ} (a : servers ≡ full (min n 8)) (b : W ≡ minus servers F)
-      (q : set ≡ routeSet W links (g .sources) (g .receiver) (take (length s - (at + 1)) (drop (at + 1) s))) where
-    wide : 8 ≤ length (drop (at + 1) s)
-    wide = let h = t .long in simp length-drop (omega arith)
-
-    sound-is : W ≡ minus (full n) F
-    sound-is = let e : min n 8 ≡ n = omega arith in b ∙ ap (λ (x : ℕ). minus x F) (a ∙ ap full e)
-
-    sound-small : minus (full n) F < 256
-    sound-small = minus-small 8 (full n) F (let p : 2 ^ n ≤ 2 ^ 8 = pow-mono few in let l = full-small n in omega arith)
-
-    checked : set ≡ routeSet (minus (full n) F) links (g .sources) (g .receiver) (drop (at + 1) s)
-    checked = q ∙ rw sound-is (ap (routeSet (minus (full n) F) links (g .sources) (g .receiver)) (part-rest s (at + 1)))
+  module _ (t : FromRoute W links s g k at carriages used whole) {set : ℕ} (q : set ≡ routeSet W links (g .sources) (g .receiver) (take (length s - (at + 1)) (drop (at + 1) s))) where
+    checked : set ≡ routeSet W links (g .sources) (g .receiver) (drop (at + 1) s)
+    checked = q ∙ ap (routeSet W links (g .sources) (g .receiver)) (part-rest s (at + 1))
 
     pub route-wrong : set ≡ 0 → stopped 9 at ≡ whole
-    unfolding routeAt
-    route-wrong z = let x = set-none (minus (full n) F) links (g .sources) (g .receiver) sound-small (drop (at + 1) s) wide checked z in sym (simp x) ∙ t .gives
+    route-wrong z = sym (simp (eq-eqb _ 0 (sym checked ∙ z))) ∙ t .gives
 
-    module _ (some : set ≡ 0 → ⊥) where
-      pub route-sound : {one others : ℕ} → one ≡ single (g .receiver) → others ≡ minus set one → FromSharing others n links F s g k at carriages used whole
-      unfolding routeAt
-      route-sound {one} {others} c d =
-          let x = set-is (minus (full n) F) links (g .sources) (g .receiver) sound-small (drop (at + 1) s) wide checked some in
-          let r = set-route (minus (full n) F) links (g .sources) (g .receiver) sound-small (drop (at + 1) s) wide checked some in
-          let y : others ≡ minus (serversOf (path (take 8 (drop (at + 1) s)))) (single (g .receiver)) = cc in
-          record { long = t .long; gives = rw y (sym (simp r) ∙ t .gives) }
+    pub route-sound : (set ≡ 0 → ⊥) → {one others : ℕ} → one ≡ single (g .receiver) → others ≡ minus set one → FromSharing others W links s g k at carriages used whole
+    route-sound some {one} {others} c d =
+        let y : others ≡ minus (routeSet W links (g .sources) (g .receiver) (drop (at + 1) s)) (single (g .receiver)) = d ∙ ap (λ (x : ℕ). minus x one) checked ∙ ap (minus _) c in
+        record { long = t .long; gives = rw y (sym (simp (ne-eqb _ 0 (λ z. some (checked ∙ z)))) ∙ t .gives) }
 
-  module _ {others : ℕ} (t : FromSharing others n links F s g k at carriages used whole) {shared : ℕ} (i : shared ≡ meet used others) where
+  module _ {others : ℕ} (t : FromSharing others W links s g k at carriages used whole) {shared : ℕ} (i : shared ≡ meet used others) where
     pub route-shares : (shared ≡ 0 → ⊥) → stopped 10 at ≡ whole
     route-shares o = sym (simp (ne-eqb (meet used others) 0 (λ z. o (i ∙ z)))) ∙ t .gives
 
-    pub route-apart : shared ≡ 0 → {used′ : ℕ} → used′ ≡ union used others → checkGroup n links F s g k (at + 9) (carriages + 1) used′ ≡ whole
+    pub route-apart : shared ≡ 0 → {used′ : ℕ} → used′ ≡ union used others → checkGroup W links s g k (at + 9) (carriages + 1) used′ ≡ whole
     route-apart z v = rw v (sym (simp (eq-eqb (meet used others) 0 (sym i ∙ z))) ∙ t .gives)
 
-pub group-done : (n : ℕ) (links : Links) (F : ℕ) (s : List ℕ) (g : Group) (k at carriages used : ℕ) → k ≡ 0 → reached at carriages ≡ checkGroup n links F s g k at carriages used
+pub group-done : (W : ℕ) (links : Links) (s : List ℕ) (g : Group) (k at carriages used : ℕ) → k ≡ 0 → reached at carriages ≡ checkGroup W links s g k at carriages used
 unfolding checkGroup
-group-done n links F s g k at carriages used z = sym (rw z refl)
+group-done W links s g k at carriages used z = sym (rw z refl)
 
 -- a route that stands alone shares nothing
-pub route-alone : {n : ℕ} {links : Links} {F : ℕ} {s : List ℕ} {g : Group} {at carriages : ℕ} {whole : Progress} → FromRoute n links F s g 0 at carriages 0 whole → n ≤ 8
-    → {servers W set : ℕ} → servers ≡ full (min n 8) → W ≡ minus servers F → set ≡ routeSet W links (g .sources) (g .receiver) (take (length s - (at + 1)) (drop (at + 1) s))
-    → (set ≡ 0 → ⊥) → reached (at + 9) (carriages + 1) ≡ whole
-route-alone t few a b q some = group-done _ _ _ _ _ 0 _ _ _ refl ∙ route-apart (route-sound t few a b q some refl refl) refl (meet-nothing _) refl
+pub route-alone : {W : ℕ} {links : Links} {s : List ℕ} {g : Group} {at carriages : ℕ} {whole : Progress} → FromRoute W links s g 0 at carriages 0 whole
+    → {set : ℕ} → set ≡ routeSet W links (g .sources) (g .receiver) (take (length s - (at + 1)) (drop (at + 1) s)) → (set ≡ 0 → ⊥) → reached (at + 9) (carriages + 1) ≡ whole
+route-alone t q some = group-done _ _ _ _ 0 _ _ _ refl ∙ route-apart (route-sound t q some refl refl) refl (meet-nothing _) refl

@@ -20,14 +20,14 @@ pub then-same : (p : Progress) (f g : ℕ → ℕ → Progress) → ((at carriag
 then-same (reached at carriages) f g h = h at carriages
 then-same (stopped number place) f g h = refl
 
-module _ (n : ℕ) (links : Links) (F : ℕ) (s : List ℕ) where
+module _ (W : ℕ) (links : Links) (s : List ℕ) where
   pub groups-append : (gs hs : List Group) (at carriages : ℕ)
-      → checkGroups n links F s (gs ++ hs) at carriages ≡ andThen (checkGroups n links F s gs at carriages) (λ (a c : ℕ). checkGroups n links F s hs a c)
+      → checkGroups W links s (gs ++ hs) at carriages ≡ andThen (checkGroups W links s gs at carriages) (λ (a c : ℕ). checkGroups W links s hs a c)
   unfolding checkGroups
   groups-append [] hs at carriages = refl
   groups-append (g ∷ gs) hs at carriages =
-      then-same (checkGroup n links F s g (g .count) at carriages 0) (λ (a c : ℕ). checkGroups n links F s (gs ++ hs) a c) (λ (a c : ℕ). andThen (checkGroups n links F s gs a c) (λ (a′ c′ : ℕ). checkGroups n links F s hs a′ c′)) (groups-append gs hs)
-      ∙ sym (then-then (checkGroup n links F s g (g .count) at carriages 0) (λ (a c : ℕ). checkGroups n links F s gs a c) (λ (a c : ℕ). checkGroups n links F s hs a c))
+      then-same (checkGroup W links s g (g .count) at carriages 0) (λ (a c : ℕ). checkGroups W links s (gs ++ hs) a c) (λ (a c : ℕ). andThen (checkGroups W links s gs a c) (λ (a′ c′ : ℕ). checkGroups W links s hs a′ c′)) (groups-append gs hs)
+      ∙ sym (then-then (checkGroup W links s g (g .count) at carriages 0) (λ (a c : ℕ). checkGroups W links s gs a c) (λ (a c : ℕ). checkGroups W links s hs a c))
 
 pub blocks-append : (n f : ℕ) (links : Links) (s : List ℕ) (ds es : List DueBlock) (at carriages : ℕ)
     → checkBlocks n f links s (ds ++ es) at carriages ≡ andThen (checkBlocks n f links s ds at carriages) (λ (a c : ℕ). checkBlocks n f links s es a c)

@@ -136,9 +136,9 @@ module _ {m len : ℕ} {step : ℕ → ℕ → ℕ → Progress} {left : ℕ} {w
 
 -- the receiver itself takes no step, so it may be left out of the sources
 
-module _ (n : ℕ) (links : Links) (F : ℕ) (s : List ℕ) (r : ℕ) where
+module _ (W : ℕ) (links : Links) (s : List ℕ) (r : ℕ) where
   without : (k lo : ℕ) (p q : Set) → ((i : ℕ) → lo ≤ i → q i ≡ (p i && not (eqb r i))) → (at carriages : ℕ)
-      → walk (toOneStep n links F s r) (listFrom k lo q) at carriages ≡ walk (toOneStep n links F s r) (listFrom k lo p) at carriages
+      → walk (toOneStep W links s r) (listFrom k lo q) at carriages ≡ walk (toOneStep W links s r) (listFrom k lo p) at carriages
   unfolding listFrom walk
   without zero lo p q h at carriages = refl
   without (suc k) lo p q h at carriages =
@@ -147,13 +147,13 @@ module _ (n : ℕ) (links : Links) (F : ℕ) (s : List ℕ) (r : ℕ) where
       cases (p lo)
       (λ t. cases (eqb r lo)
       (λ u. let out : q lo ≡ false = e ∙ simp (t, u) in
-      let v = toOne-self n links F s r lo at carriages (sym (eqb-true r lo u)) in
-      rw (t, out) (ih at carriages ∙ sym (ap (λ (y : Progress). andThen y (λ (a c : ℕ). walk (toOneStep n links F s r) (listFrom k (suc lo) p) a c)) v)))
-      (λ u. let out : q lo ≡ true = e ∙ simp (t, u) in rw (t, out) (then-same (toOneStep n links F s r lo at carriages) _ _ ih)))
+      let v = toOne-self W links s r lo at carriages (sym (eqb-true r lo u)) in
+      rw (t, out) (ih at carriages ∙ sym (ap (λ (y : Progress). andThen y (λ (a c : ℕ). walk (toOneStep W links s r) (listFrom k (suc lo) p) a c)) v)))
+      (λ u. let out : q lo ≡ true = e ∙ simp (t, u) in rw (t, out) (then-same (toOneStep W links s r lo at carriages) _ _ ih)))
       (λ t. let out : q lo ≡ false = e ∙ simp t in rw (t, out) (ih at carriages))
 
   pub row-others : (S one others : ℕ) → r < 8 → one ≡ single r → others ≡ minus S one → (at carriages : ℕ)
-      → walk (toOneStep n links F s r) (members others) at carriages ≡ walk (toOneStep n links F s r) (members S) at carriages
+      → walk (toOneStep W links s r) (members others) at carriages ≡ walk (toOneStep W links s r) (members S) at carriages
   unfolding members
   row-others S one others l a b at carriages =
       without 8 0 (has S) (has others)

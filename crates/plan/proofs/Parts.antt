@@ -1,6 +1,5 @@
 -- The parts of a block, one after the other.
 --     halts-then, moves-then   a check that stops, or goes on, in a row of checks
---     others-is                the servers of V−F outside S, as the code computes them
 --     rest-split               the commands of a block after its opening, kind by kind
 --     FromFault, FromSide, FromQuorum, block-..   the points of the test of a block's opening, and what the tests give
 -- Assumes nothing.
@@ -34,25 +33,21 @@ module _ (x : Progress) (next : ℕ → ℕ → Progress) (y : Code.Progress) (z
 pub sound-is : (n F servers sound : ℕ) → n ≤ 8 → servers ≡ full (min n 8) → sound ≡ minus servers F → sound ≡ minus (full n) F
 sound-is n F servers sound h p q = let e = full-few n servers h p .0 in q ∙ ap (λ (x : ℕ). minus x F) e
 
-pub others-is : (n F S servers sound others : ℕ) → n ≤ 8 → servers ≡ full (min n 8) → sound ≡ minus servers F → others ≡ minus sound S
-    → others ≡ minus (minus (full n) F) S
-others-is n F S servers sound others h p q r = r ∙ ap (λ (x : ℕ). minus x S) (sound-is n F servers sound h p q)
-
 module _ (n f : ℕ) (links : Links) (F A S : ℕ) (s : List ℕ) where
   pub rest-split : (at carriages : ℕ) (next : ℕ → ℕ → Progress)
-      → andThen (checkGroups n links F s (routesDue n f F A S) at carriages) next
-      ≡ andThen (checkGroups n links F s (fan f 0x11 A (members (minus S A))) at carriages)
-      (λ (a c : ℕ). andThen (checkGroups n links F s (pairs (members S) (members S)) a c)
-      (λ (b d : ℕ). andThen (checkGroups n links F s (fan f 0x13 S (members (minus (minus (full n) F) S))) b d) next))
+      → andThen (checkGroups (minus (full n) F) links s (routesDue n f F A S) at carriages) next
+      ≡ andThen (checkGroups (minus (full n) F) links s (fan f 0x11 A (members (minus S A))) at carriages)
+      (λ (a c : ℕ). andThen (checkGroups (minus (full n) F) links s (pairs (members S) (members S)) a c)
+      (λ (b d : ℕ). andThen (checkGroups (minus (full n) F) links s (fan f 0x13 S (members (minus (minus (full n) F) S))) b d) next))
   unfolding routesDue
   rest-split at carriages next =
       let inward = fan f 0x11 A (members (minus S A)) in
       let among = pairs (members S) (members S) in
       let outward = fan f 0x13 S (members (minus (minus (full n) F) S)) in
-      ap (λ (u : Progress). andThen u next) (groups-append n links F s (inward ++ among) outward at carriages)
-      ∙ ap (λ (u : Progress). andThen (andThen u (λ (a c : ℕ). checkGroups n links F s outward a c)) next) (groups-append n links F s inward among at carriages)
-      ∙ then-then (andThen (checkGroups n links F s inward at carriages) (λ (a c : ℕ). checkGroups n links F s among a c)) (λ (a c : ℕ). checkGroups n links F s outward a c) next
-      ∙ then-then (checkGroups n links F s inward at carriages) (λ (a c : ℕ). checkGroups n links F s among a c) (λ (a c : ℕ). andThen (checkGroups n links F s outward a c) next)
+      ap (λ (u : Progress). andThen u next) (groups-append (minus (full n) F) links s (inward ++ among) outward at carriages)
+      ∙ ap (λ (u : Progress). andThen (andThen u (λ (a c : ℕ). checkGroups (minus (full n) F) links s outward a c)) next) (groups-append (minus (full n) F) links s inward among at carriages)
+      ∙ then-then (andThen (checkGroups (minus (full n) F) links s inward at carriages) (λ (a c : ℕ). checkGroups (minus (full n) F) links s among a c)) (λ (a c : ℕ). checkGroups (minus (full n) F) links s outward a c) next
+      ∙ then-then (checkGroups (minus (full n) F) links s inward at carriages) (λ (a c : ℕ). checkGroups (minus (full n) F) links s among a c) (λ (a c : ℕ). andThen (checkGroups (minus (full n) F) links s outward a c) next)
 
 -- The tests of a block's opening, in their order, at three points. At each, what is left to test gives the answer of the block check.
 
@@ -61,7 +56,7 @@ Point = (n f : ℕ) (links : Links) (s : List ℕ) (F p : ℕ) → Type 0
 
 -- the commands after the opening
 abbrev pub restOf : (n f : ℕ) (links : Links) (s : List ℕ) (F : ℕ) → Progress
-restOf n f links s F = andThen (checkGroups n links F s (routesDue n f F (getD s 2 0) (getD s 3 0)) 4 0) (λ (at carriages : ℕ). checkReports n f links F s (members F) at carriages)
+restOf n f links s F = andThen (checkGroups (minus (full n) F) links s (routesDue n f F (getD s 2 0) (getD s 3 0)) 4 0) (λ (at carriages : ℕ). checkReports n f links F s (members F) at carriages)
 
 -- the command is a block's with its operands there, and F is next
 pub record FromFault (n f : ℕ) (links : Links) (s : List ℕ) (F p : ℕ) : Type 0 where

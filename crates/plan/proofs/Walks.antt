@@ -48,52 +48,53 @@ list-done limit i p h = let z : limit - i ≡ 0 = omega arith in rw z refl
 
 -- lists of groups
 
-module _ (n : ℕ) (links : Links) (F : ℕ) (s : List ℕ) where
+module _ (W : ℕ) (links : Links) (s : List ℕ) where
   -- the step of a receiver: its f + 1 routes
   unfoldable pub fanStep : (f command sources : ℕ) → ℕ → ℕ → ℕ → Progress
-  fanStep f command sources r a c = checkGroup n links F s (groupOf command sources r (f + 1)) (f + 1) a c 0
+  fanStep f command sources r a c = checkGroup W links s (groupOf command sources r (f + 1)) (f + 1) a c 0
 
   pub fan-walk : (f command sources : ℕ) (rs : List ℕ) (at carriages : ℕ)
-      → checkGroups n links F s (fan f command sources rs) at carriages ≡ walk (fanStep f command sources) rs at carriages
+      → checkGroups W links s (fan f command sources rs) at carriages ≡ walk (fanStep f command sources) rs at carriages
   unfolding checkGroups fan walk fanStep
   fan-walk f command sources [] at carriages = refl
   fan-walk f command sources (r ∷ rs) at carriages =
-      then-same (checkGroup n links F s (groupOf command sources r (f + 1)) (f + 1) at carriages 0) (λ (a c : ℕ). checkGroups n links F s (fan f command sources rs) a c) (λ (a c : ℕ). walk (fanStep f command sources) rs a c) (fan-walk f command sources rs)
+      then-same (checkGroup W links s (groupOf command sources r (f + 1)) (f + 1) at carriages 0) (λ (a c : ℕ). checkGroups W links s (fan f command sources rs) a c) (λ (a c : ℕ). walk (fanStep f command sources) rs a c) (fan-walk f command sources rs)
 
   -- the step of a source: none where it is the receiver itself
   unfoldable pub toOneStep : ℕ → ℕ → ℕ → ℕ → Progress
-  toOneStep r x a c = cond (eqb x r) (reached a c) (checkGroup n links F s (groupOf 0x12 (single x) r 1) 1 a c 0)
+  toOneStep r x a c = cond (eqb x r) (reached a c) (checkGroup W links s (groupOf 0x12 (single x) r 1) 1 a c 0)
 
   pub toOne-self : (r x a c : ℕ) → x ≡ r → toOneStep r x a c ≡ reached a c
   unfolding toOneStep
   toOne-self r x a c e = simp (eq-eqb x r e)
 
   pub toOne-other : (r x a c : ℕ) → (x ≡ r → ⊥) → (one : ℕ) → one ≡ single x → (y : Progress)
-      → y ≡ checkGroup n links F s (groupOf 0x12 one r 1) 1 a c 0 → y ≡ toOneStep r x a c
+      → y ≡ checkGroup W links s (groupOf 0x12 one r 1) 1 a c 0 → y ≡ toOneStep r x a c
   unfolding toOneStep
-  toOne-other r x a c o one e y q = q ∙ ap (λ (z : ℕ). checkGroup n links F s (groupOf 0x12 z r 1) 1 a c 0) e ∙ sym (simp (ne-eqb x r o))
+  toOne-other r x a c o one e y q = q ∙ ap (λ (z : ℕ). checkGroup W links s (groupOf 0x12 z r 1) 1 a c 0) e ∙ sym (simp (ne-eqb x r o))
 
   pub toOne-walk : (r : ℕ) (ss : List ℕ) (at carriages : ℕ)
-      → checkGroups n links F s (toOne r ss) at carriages ≡ walk (toOneStep r) ss at carriages
+      → checkGroups W links s (toOne r ss) at carriages ≡ walk (toOneStep r) ss at carriages
   unfolding checkGroups toOne walk toOneStep
   toOne-walk r [] at carriages = refl
   toOne-walk r (x ∷ ss) at carriages =
       cases (eqb x r)
       (λ e. rw e (toOne-walk r ss at carriages))
-      (λ e. rw e (then-same (checkGroup n links F s (groupOf 0x12 (single x) r 1) 1 at carriages 0) (λ (a c : ℕ). checkGroups n links F s (toOne r ss) a c) (λ (a c : ℕ). walk (toOneStep r) ss a c) (toOne-walk r ss)))
+      (λ e. rw e (then-same (checkGroup W links s (groupOf 0x12 (single x) r 1) 1 at carriages 0) (λ (a c : ℕ). checkGroups W links s (toOne r ss) a c) (λ (a c : ℕ). walk (toOneStep r) ss a c) (toOne-walk r ss)))
 
   -- the step of a receiver: a route from each other server
   unfoldable pub rowStep : List ℕ → ℕ → ℕ → ℕ → Progress
-  rowStep ss r a c = checkGroups n links F s (toOne r ss) a c
+  rowStep ss r a c = checkGroups W links s (toOne r ss) a c
 
   pub pairs-walk : (ss rs : List ℕ) (at carriages : ℕ)
-      → checkGroups n links F s (pairs ss rs) at carriages ≡ walk (rowStep ss) rs at carriages
+      → checkGroups W links s (pairs ss rs) at carriages ≡ walk (rowStep ss) rs at carriages
   unfolding checkGroups pairs walk rowStep
   pairs-walk ss [] at carriages = refl
   pairs-walk ss (r ∷ rs) at carriages =
-      groups-append n links F s (toOne r ss) (pairs ss rs) at carriages
-      ∙ then-same (checkGroups n links F s (toOne r ss) at carriages) (λ (a c : ℕ). checkGroups n links F s (pairs ss rs) a c) (λ (a c : ℕ). walk (rowStep ss) rs a c) (pairs-walk ss rs)
+      groups-append W links s (toOne r ss) (pairs ss rs) at carriages
+      ∙ then-same (checkGroups W links s (toOne r ss) at carriages) (λ (a c : ℕ). checkGroups W links s (pairs ss rs) a c) (λ (a c : ℕ). walk (rowStep ss) rs a c) (pairs-walk ss rs)
 
+module _ (n : ℕ) (links : Links) (F : ℕ) (s : List ℕ) where
   -- the step of a report to k
   unfoldable pub reportStep : ℕ → ℕ → ℕ → ℕ → Progress
   reportStep f k at carriages =

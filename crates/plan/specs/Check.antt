@@ -9,7 +9,7 @@ use Rattle.refusal.specs.Refused.{Refused, plan}
 use Rattle.sets.specs.Sets.{union, meet, minus, within, full, size, single}
 use Rattle.network.specs.Links.{Links, linkedIn}
 use Rattle.network.specs.Card.{Network, network, refused, readCard}
-use Rattle.route.specs.Route.{path, serversOf, isRoute}
+use Rattle.route.specs.Route.{routeSet}
 use Rattle.route.specs.Commands.{isCut}
 use Rattle.plan.specs.Members.{members}
 use Rattle.plan.specs.Due.{DueBlock, due, Group, routesDue}
@@ -27,25 +27,26 @@ isDue s at command next = cond (isCut s at) (stopped 2 at) (cond (eqb (getD s at
 unfoldable pub routeAt : List ℕ → ℕ → List ℕ
 routeAt s at = take 8 (drop (at + 1) s)
 
--- k more routes of a group; `used` holds the servers, the receiver aside, of the earlier ones
-unfoldable pub checkGroup : ℕ → Links → ℕ → List ℕ → Group → (k at carriages used : ℕ) → Progress
-checkGroup n links F s g zero at carriages used = reached at carriages
-checkGroup n links F s g (suc k) at carriages used =
-    let servers = minus (serversOf (path (routeAt s at))) (single (g .receiver)) in
-    let on = checkGroup n links F s g k (at + 9) (carriages + 1) (union used servers) in
+-- k more routes of a group within W, which is V−F; `used` holds the servers, the receiver aside, of the earlier ones
+unfoldable pub checkGroup : ℕ → Links → List ℕ → Group → (k at carriages used : ℕ) → Progress
+checkGroup W links s g zero at carriages used = reached at carriages
+checkGroup W links s g (suc k) at carriages used =
+    let servers = routeSet W links (g .sources) (g .receiver) (drop (at + 1) s) in
+    let others = minus servers (single (g .receiver)) in
+    let on = checkGroup W links s g k (at + 9) (carriages + 1) (union used others) in
     isDue s at (g .command)
-    (cond (not (isRoute (minus (full n) F) links (g .sources) (g .receiver) (routeAt s at))) (stopped 9 at)
-    (cond (not (eqb (meet used servers) 0)) (stopped 10 at) on))
+    (cond (eqb servers 0) (stopped 9 at)
+    (cond (not (eqb (meet used others) 0)) (stopped 10 at) on))
 
 -- on from a place that is reached
 abbrev pub andThen : Progress → (ℕ → ℕ → Progress) → Progress
 andThen (reached at carriages) next = next at carriages
 andThen (stopped number place) next = stopped number place
 
-unfoldable pub checkGroups : ℕ → Links → ℕ → List ℕ → List Group → (at carriages : ℕ) → Progress
-checkGroups n links F s [] at carriages = reached at carriages
-checkGroups n links F s (g ∷ gs) at carriages =
-    andThen (checkGroup n links F s g (g .count) at carriages 0) (λ (at′ carriages′ : ℕ). checkGroups n links F s gs at′ carriages′)
+unfoldable pub checkGroups : ℕ → Links → List ℕ → List Group → (at carriages : ℕ) → Progress
+checkGroups W links s [] at carriages = reached at carriages
+checkGroups W links s (g ∷ gs) at carriages =
+    andThen (checkGroup W links s g (g .count) at carriages 0) (λ (at′ carriages′ : ℕ). checkGroups W links s gs at′ carriages′)
 
 -- every server of the list has a link to k
 unfoldable pub allLinked : Links → ℕ → List ℕ → Bool
@@ -71,7 +72,7 @@ checkBlock n f links s d =
     let A = getD s 2 0 in
     let S = getD s 3 0 in
     let rest =
-    andThen (checkGroups n links F s (routesDue n f F A S) 4 0)
+    andThen (checkGroups (minus (full n) F) links s (routesDue n f F A S) 4 0)
     (λ (at carriages : ℕ). checkReports n f links F s (members F) at carriages) in
     isDue s 0 0x10
     (cond (eqb F (d .faults) && (eqb A (d .part) || eqb A (minus W (d .part))))

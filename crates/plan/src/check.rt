@@ -55,9 +55,8 @@ fn not_due(plan: &[u8], at: usize) -> PlanGround
 // The next `count` routes: each is due, keeps the rules on its own, comes from one of the sources
 // to the receiver, and shares nothing but the receiver with those before it.
 fn check_group(
-    n: u8,
+    sound: u8,
     rows: &[u8; 8],
-    fault: u8,
     plan: &[u8],
     start: usize,
     before: usize,
@@ -66,10 +65,9 @@ fn check_group(
     receiver: u8,
     count: usize,
 ) -> Progress
-    requires { ⌜ (width command ≡ 9) × (before ≤ start) × (n ≤ 8) ⌝ }
-    ensures { λ r. ⌜ progressOf r ≡ checkGroup n (linksOf (now (rows .entry))) fault (now (plan .entry)) (groupOf command sources receiver count) count start before 0 ⌝ }
+    requires { ⌜ (width command ≡ 9) × (before ≤ start) ⌝ }
+    ensures { λ r. ⌜ progressOf r ≡ checkGroup sound (linksOf (now (rows .entry))) (now (plan .entry)) (groupOf command sources receiver count) count start before 0 ⌝ }
 {
-    let sound = sets::minus(sets::full(n), fault);
     let mut at = start;
     let mut carriages = before;
     let mut used: u8 = 0;
@@ -96,22 +94,20 @@ fn check_group(
 
 // One route by itself: there is none that it could share a server with.
 fn check_one(
-    n: u8,
+    sound: u8,
     rows: &[u8; 8],
-    fault: u8,
     plan: &[u8],
     at: usize,
     before: usize,
     sources: u8,
     receiver: u8,
 ) -> Progress
-    requires { ⌜ (before ≤ at) × (n ≤ 8) ⌝ }
-    ensures { λ r. ⌜ progressOf r ≡ checkGroup n (linksOf (now (rows .entry))) fault (now (plan .entry)) (groupOf 18 sources receiver 1) 1 at before 0 ⌝ }
+    requires { ⌜ before ≤ at ⌝ }
+    ensures { λ r. ⌜ progressOf r ≡ checkGroup sound (linksOf (now (rows .entry))) (now (plan .entry)) (groupOf 18 sources receiver 1) 1 at before 0 ⌝ }
 {
     if is_route_due(plan, at, 18) {} else {
         return Progress::Stopped(not_due(plan, at));
     }
-    let sound = sets::minus(sets::full(n), fault);
     let first = at + 1;
     let servers = route::check_route(sound, rows, sources, receiver, &plan[first..]);
     if servers == 0 {
@@ -127,9 +123,8 @@ fn check_one(
 
 // f+1 routes to each receiver of the set, receivers ascending, from the sources.
 fn check_fan(
-    n: u8,
+    sound: u8,
     rows: &[u8; 8],
-    fault: u8,
     plan: &[u8],
     start: usize,
     before: usize,
@@ -138,8 +133,8 @@ fn check_fan(
     receivers: u8,
     f: u8,
 ) -> Progress
-    requires { ⌜ (width command ≡ 9) × (before ≤ start) × (start ≤ length (now plan)) × (n ≤ 8) ⌝ }
-    ensures { λ r. ⌜ progressOf r ≡ checkGroups n (linksOf (now (rows .entry))) fault (now (plan .entry)) (fan f command sources (members receivers)) start before ⌝ }
+    requires { ⌜ (width command ≡ 9) × (before ≤ start) × (start ≤ length (now plan)) ⌝ }
+    ensures { λ r. ⌜ progressOf r ≡ checkGroups sound (linksOf (now (rows .entry))) (now (plan .entry)) (fan f command sources (members receivers)) start before ⌝ }
 {
     let count = (f as usize) + 1;
     let mut at = start;
@@ -149,9 +144,8 @@ fn check_fan(
         let receiver = sets::lowest(left);
         let others = sets::minus(left, sets::single(receiver));
         let group = check_group(
-            n,
+            sound,
             rows,
-            fault,
             plan,
             at,
             carriages,
@@ -179,17 +173,16 @@ fn check_fan(
 
 // One route to the receiver from each other server of the quorum, sources ascending.
 fn check_to_one(
-    n: u8,
+    sound: u8,
     rows: &[u8; 8],
-    fault: u8,
     plan: &[u8],
     start: usize,
     before: usize,
     quorum: u8,
     receiver: u8,
 ) -> Progress
-    requires { ⌜ (before ≤ start) × (start ≤ length (now plan)) × (receiver < 8) × (n ≤ 8) ⌝ }
-    ensures { λ r. ⌜ progressOf r ≡ checkGroups n (linksOf (now (rows .entry))) fault (now (plan .entry)) (toOne receiver (members quorum)) start before ⌝ }
+    requires { ⌜ (before ≤ start) × (start ≤ length (now plan)) × (receiver < 8) ⌝ }
+    ensures { λ r. ⌜ progressOf r ≡ checkGroups sound (linksOf (now (rows .entry))) (now (plan .entry)) (toOne receiver (members quorum)) start before ⌝ }
 {
     let mut at = start;
     let mut carriages = before;
@@ -198,7 +191,7 @@ fn check_to_one(
         let source = sets::lowest(left);
         let only = sets::single(source);
         let others = sets::minus(left, only);
-        let route = check_one(n, rows, fault, plan, at, carriages, only, receiver);
+        let route = check_one(sound, rows, plan, at, carriages, only, receiver);
         match route {
             Progress::Stopped(ground) => {
                 return Progress::Stopped(ground);
@@ -218,16 +211,15 @@ fn check_to_one(
 
 // One route for each receiver of the quorum and each other server of it as the source.
 fn check_pairs(
-    n: u8,
+    sound: u8,
     rows: &[u8; 8],
-    fault: u8,
     plan: &[u8],
     start: usize,
     before: usize,
     quorum: u8,
 ) -> Progress
-    requires { ⌜ (before ≤ start) × (start ≤ length (now plan)) × (n ≤ 8) ⌝ }
-    ensures { λ r. ⌜ progressOf r ≡ checkGroups n (linksOf (now (rows .entry))) fault (now (plan .entry)) (pairs (members quorum) (members quorum)) start before ⌝ }
+    requires { ⌜ (before ≤ start) × (start ≤ length (now plan)) ⌝ }
+    ensures { λ r. ⌜ progressOf r ≡ checkGroups sound (linksOf (now (rows .entry))) (now (plan .entry)) (pairs (members quorum) (members quorum)) start before ⌝ }
 {
     let mut at = start;
     let mut carriages = before;
@@ -235,7 +227,7 @@ fn check_pairs(
     while left != 0 {
         let receiver = sets::lowest(left);
         let others = sets::minus(left, sets::single(receiver));
-        let row = check_to_one(n, rows, fault, plan, at, carriages, quorum, receiver);
+        let row = check_to_one(sound, rows, plan, at, carriages, quorum, receiver);
         match row {
             Progress::Stopped(ground) => {
                 return Progress::Stopped(ground);
@@ -334,11 +326,11 @@ fn check_outward(
     before: usize,
 ) -> Progress
     requires { ⌜ (n ≤ 8) × (before ≤ start) × (start ≤ length (now block)) ⌝ }
-    ensures { λ r. ⌜ progressOf r ≡ andThen (checkGroups n (linksOf (now (rows .entry))) fault (now (block .entry)) (fan f 19 quorum (members (minus (minus (full n) fault) quorum))) start before) (λ at carriages. checkReports n f (linksOf (now (rows .entry))) fault (now (block .entry)) (members fault) at carriages) ⌝ }
+    ensures { λ r. ⌜ progressOf r ≡ andThen (checkGroups (minus (full n) fault) (linksOf (now (rows .entry))) (now (block .entry)) (fan f 19 quorum (members (minus (minus (full n) fault) quorum))) start before) (λ at carriages. checkReports n f (linksOf (now (rows .entry))) fault (now (block .entry)) (members fault) at carriages) ⌝ }
 {
     let sound = sets::minus(sets::full(n), fault);
     let others = sets::minus(sound, quorum);
-    let outward = check_fan(n, rows, fault, block, start, before, 19, quorum, others, f);
+    let outward = check_fan(sound, rows, block, start, before, 19, quorum, others, f);
     match outward {
         Progress::Stopped(ground) => Progress::Stopped(ground),
         Progress::Reached { at, carriages } => check_reports(
@@ -365,9 +357,10 @@ fn check_among(
     before: usize,
 ) -> Progress
     requires { ⌜ (n ≤ 8) × (before ≤ start) × (start ≤ length (now block)) ⌝ }
-    ensures { λ r. ⌜ progressOf r ≡ andThen (checkGroups n (linksOf (now (rows .entry))) fault (now (block .entry)) (pairs (members quorum) (members quorum)) start before) (λ a c. andThen (checkGroups n (linksOf (now (rows .entry))) fault (now (block .entry)) (fan f 19 quorum (members (minus (minus (full n) fault) quorum))) a c) (λ at carriages. checkReports n f (linksOf (now (rows .entry))) fault (now (block .entry)) (members fault) at carriages)) ⌝ }
+    ensures { λ r. ⌜ progressOf r ≡ andThen (checkGroups (minus (full n) fault) (linksOf (now (rows .entry))) (now (block .entry)) (pairs (members quorum) (members quorum)) start before) (λ a c. andThen (checkGroups (minus (full n) fault) (linksOf (now (rows .entry))) (now (block .entry)) (fan f 19 quorum (members (minus (minus (full n) fault) quorum))) a c) (λ at carriages. checkReports n f (linksOf (now (rows .entry))) fault (now (block .entry)) (members fault) at carriages)) ⌝ }
 {
-    let among = check_pairs(n, rows, fault, block, start, before, quorum);
+    let sound = sets::minus(sets::full(n), fault);
+    let among = check_pairs(sound, rows, block, start, before, quorum);
     match among {
         Progress::Stopped(ground) => Progress::Stopped(ground),
         Progress::Reached { at, carriages } => check_outward(
@@ -394,10 +387,11 @@ fn check_rest(
     block: &[u8],
 ) -> Progress
     requires { ⌜ (n ≤ 8) × (4 ≤ length (now block)) ⌝ }
-    ensures { λ r. ⌜ progressOf r ≡ andThen (checkGroups n (linksOf (now (rows .entry))) fault (now (block .entry)) (routesDue n f fault side quorum) 4 0) (λ at carriages. checkReports n f (linksOf (now (rows .entry))) fault (now (block .entry)) (members fault) at carriages) ⌝ }
+    ensures { λ r. ⌜ progressOf r ≡ andThen (checkGroups (minus (full n) fault) (linksOf (now (rows .entry))) (now (block .entry)) (routesDue n f fault side quorum) 4 0) (λ at carriages. checkReports n f (linksOf (now (rows .entry))) fault (now (block .entry)) (members fault) at carriages) ⌝ }
 {
+    let sound = sets::minus(sets::full(n), fault);
     let receivers = sets::minus(quorum, side);
-    let inward = check_fan(n, rows, fault, block, 4, 0, 17, side, receivers, f);
+    let inward = check_fan(sound, rows, block, 4, 0, 17, side, receivers, f);
     match inward {
         Progress::Stopped(ground) => Progress::Stopped(ground),
         Progress::Reached { at, carriages } => check_among(

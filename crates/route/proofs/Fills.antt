@@ -3,7 +3,7 @@
 --     lack-fill     it is 0 only for fill; fill-lack and is 0 for fill
 --     lack-word     the number of eight bytes from the word that they make up
 -- Assumes nothing.
-use mathlib.Core.Path.{_≡_, refl, ap, _∙_}
+use mathlib.Core.Path.{_≡_, refl}
 use mathlib.Core.Bool.{true}
 use mathlib.Core.List.{List, [], _∷_}
 use Prim.Native.Nat.{ℕ, suc, _+_, _-_, _*_, _/_, _≤_, _<_}
@@ -37,10 +37,6 @@ fill-lack (b ∷ bs) e =
     omega arith
 
 module _ (s : List ℕ) (fits : 8 ≤ length s) (low : (i : ℕ) → getD s i 0 < 256) where
-  -- the number of the bytes from k on
-  from : ℕ → ℕ
-  from k = lackOf (drop k (take 8 s))
-
   digit : (k : ℕ) → k < 8 → lackOf (drop k (take 8 s)) + getD s k 0 ≡ 255 + 256 * lackOf (drop (k + 1) (take 8 s))
   unfolding lackOf
   digit k h = let l = low k in rw (part-next 8 s fits k h) (omega arith)

@@ -30,9 +30,6 @@ module _ (s : List ℕ) (fits : 8 ≤ length s) where
   abbrev pub Passed : ℕ → Type 0
   Passed k = k + length (path (drop k (take 8 s))) ≡ length (path (take 8 s))
 
-  pub path-starts : Passed 0
-  path-starts = omega arith
-
   module _ (k : ℕ) (h : k < 8) (so : Passed k) where
     pub path-stops : getD s k 0 ≡ 255 → k ≡ length (path (take 8 s))
     unfolding path

@@ -11,7 +11,7 @@ use lib.ListN.{length, getD, take, drop, List·getD-eq-default}
 use lib.Seq.{getD-drop, getD-take, length-take-le}
 use lib.Dec.{eqb, ltb}
 use borrow.Author.Tests.{ltb-true, ltb-false}
-use Rattle.facts.proofs.Bools.{cases, clash, is-false, and-left, and-right}
+use Rattle.facts.proofs.Bools.{cases, is-false, and-left}
 use Rattle.sets.specs.Sets.{has, meet, minus, single}
 use Rattle.sets.proofs.Members.{has-meet, has-below, has-beyond, minus-small}
 use Rattle.network.specs.Links.{linkedIn}

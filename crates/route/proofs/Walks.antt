@@ -14,8 +14,8 @@ use lib.Seq.{take-take}
 use lib.Dec.{eqb, ltb, leb}
 use borrow.Author.Tests.{lt-ltb, le-leb, lt-leb, eq-eqb, ne-eqb, eqb-true}
 use Rattle.facts.proofs.Bools.{cases, clash, is-false, and-left, and-right, both}
-use Rattle.sets.specs.Sets.{has, union, meet, minus, single}
-use Rattle.sets.proofs.Members.{has-union, has-meet, has-minus, has-single, has-empty, has-below, minus-small, same-all}
+use Rattle.sets.specs.Sets.{has, union, minus, single}
+use Rattle.sets.proofs.Members.{has-union, has-minus, has-single, has-empty, has-below, minus-small, same-all}
 use Rattle.network.specs.Links.{Links, linkedIn}
 use Rattle.route.specs.Route.{path, isFill, filled, serversOf, goesOn, isPath, isRoute, checkedRoute, routeSet}
 use Rattle.route.proofs.Paths.{part-next, path-part}
@@ -171,15 +171,20 @@ module _ (W : ℕ) (links : Links) (sources receiver : ℕ) where
       route-short h = sym (simp (lt-leb 8 (length s) h))
 
       -- the servers that are handed back: those of the path where the bytes are a route, else none
-      pub part-yes : 8 ≤ length s → isRoute W links sources receiver (take 8 s) ≡ true → checkedRoute W links sources receiver s ≡ path (take 8 s)
+      part-yes : 8 ≤ length s → isRoute W links sources receiver (take 8 s) ≡ true → checkedRoute W links sources receiver s ≡ path (take 8 s)
       unfolding checkedRoute
       part-yes h e = simp (le-leb 8 (length s) h, e)
+
+      -- the set of a route is that of its servers
+      pub route-set : 8 ≤ length s → isRoute W links sources receiver (take 8 s) ≡ true → routeSet W links sources receiver s ≡ serversOf (path (take 8 s))
+      unfolding routeSet
+      route-set h e = ap serversOf (part-yes h e)
 
       pub part-short : length s < 8 → [] ≡ checkedRoute W links sources receiver s
       unfolding checkedRoute
       part-short h = sym (simp (lt-leb 8 (length s) h))
 
-      pub part-no : isRoute W links sources receiver (take 8 s) ≡ false → checkedRoute W links sources receiver s ≡ []
+      part-no : isRoute W links sources receiver (take 8 s) ≡ false → checkedRoute W links sources receiver s ≡ []
       unfolding checkedRoute
       part-no e = simp (e, and-false (leb 8 (length s)))
 
@@ -200,17 +205,15 @@ module _ (W : ℕ) (links : Links) (sources receiver : ℕ) where
 
       -- by the set it is known whether the bytes are a route
       module _ (h : 8 ≤ length s) {set : ℕ} (q : set ≡ routeSet W links sources receiver s) where
-        pub set-none : set ≡ 0 → isRoute W links sources receiver (take 8 s) ≡ false
-        unfolding routeSet
-        set-none z = is-false (isRoute W links sources receiver (take 8 s)) (λ e. set-some e (sym (ap serversOf (part-yes h e)) ∙ sym q ∙ z))
+        set-none : set ≡ 0 → isRoute W links sources receiver (take 8 s) ≡ false
+        set-none z = is-false (isRoute W links sources receiver (take 8 s)) (λ e. set-some e (sym (route-set h e) ∙ sym q ∙ z))
 
         pub set-route : (set ≡ 0 → ⊥) → isRoute W links sources receiver (take 8 s) ≡ true
         unfolding routeSet serversOf
         set-route o = cases (isRoute W links sources receiver (take 8 s)) (λ e. e) (λ e. absurd (o (q ∙ ap serversOf (part-no e))))
 
         pub set-is : (set ≡ 0 → ⊥) → set ≡ serversOf (path (take 8 s))
-        unfolding routeSet
-        set-is o = q ∙ ap serversOf (part-yes h (set-route o))
+        set-is o = q ∙ route-set h (set-route o)
 
         -- what is handed back by the set and the length of the path
         pub part-empty : set ≡ 0 → [] ≡ checkedRoute W links sources receiver s

@@ -68,6 +68,7 @@ pub fn check_route(sound: u8, rows: &[u8; 8], sources: u8, receiver: u8, operand
                 return ended(sound, free, last, receiver);
             }
         }
+        // never reached: after the eighth byte nothing is left
         return 0;
     }
     0

@@ -12,7 +12,7 @@ use native.Mathlib.Nat.{suc-mul, zero-mul}
 use native.Mathlib.Omega.{arith}
 use lib.ListN.{length, replicate, length-map, length-append, length-replicate}
 use Rattle.facts.proofs.Bools.{by-cond}
-use Rattle.sets.specs.Sets.{Set, In, has, size}
+use Rattle.sets.specs.Sets.{Set, In, has, size, minus, full}
 use Rattle.sets.proofs.Members.{meet-nothing}
 use Rattle.network.specs.Links.{Links}
 use Rattle.plan.specs.Members.{listFrom, members}
@@ -128,22 +128,22 @@ module _ (n f : ℕ) (links : Links) (F : ℕ) (few : n ≤ 8) (s : List ℕ) wh
         let t = fan-parts r rs us vs u v (rw e at h) in
         (us, vs, e, t .0, t .1, t .2)
 
-    fan-none : (at c a c′ : ℕ) → checkGroups n links F s (fan f command sources []) at c ≡ reached a c′ → (at ≡ a) × (c ≡ c′)
+    fan-none : (at c a c′ : ℕ) → checkGroups (minus (full n) F) links s (fan f command sources []) at c ≡ reached a c′ → (at ≡ a) × (c ≡ c′)
     unfolding fan checkGroups
     fan-none at c a c′ e = reached-same at c a c′ e
 
     -- the routes to the first receiver in what the check accepts
-    fan-first : (r : ℕ) (rs : List ℕ) (at c a c′ : ℕ) → checkGroups n links F s (fan f command sources (r ∷ rs)) at c ≡ reached a c′
+    fan-first : (r : ℕ) (rs : List ℕ) (at c a c′ : ℕ) → checkGroups (minus (full n) F) links s (fan f command sources (r ∷ rs)) at c ≡ reached a c′
         → Span s at (encodeRoutes command (routesAt s at (f + 1))) × Separated r (routesAt s at (f + 1))
-        × (checkGroups n links F s (fan f command sources rs) (at + 9 * (f + 1)) (c + (f + 1)) ≡ reached a c′)
+        × (checkGroups (minus (full n) F) links s (fan f command sources rs) (at + 9 * (f + 1)) (c + (f + 1)) ≡ reached a c′)
     unfolding fan checkGroups
     fan-first r rs at c a c′ e =
-        let (a₀, c₀, p, q) = then-forward (checkGroup n links F s (groupTo r) (f + 1) at c 0) (λ (b d : ℕ). checkGroups n links F s (fan f command sources rs) b d) a c′ e in
+        let (a₀, c₀, p, q) = then-forward (checkGroup (minus (full n) F) links s (groupTo r) (f + 1) at c 0) (λ (b d : ℕ). checkGroups (minus (full n) F) links s (fan f command sources rs) b d) a c′ e in
         let h = group-forward n links F few s (groupTo r) wide (f + 1) at c 0 a₀ c₀ p in
         (h .2, (h .3, h .4), rw (h .0, h .1) at q)
 
     -- the check accepts only a fan
-    fan-to : (rs : List ℕ) → Different rs → (at c a c′ : ℕ) → checkGroups n links F s (fan f command sources rs) at c ≡ reached a c′
+    fan-to : (rs : List ℕ) → Different rs → (at c a c′ : ℕ) → checkGroups (minus (full n) F) links s (fan f command sources rs) at c ≡ reached a c′
         → (a ≡ at + 9 * (length rs * (f + 1))) × (c′ ≡ c + length rs * (f + 1))
         × Span s at (encodeRoutes command (routesAt s at (length rs * (f + 1))))
         × FanTo n f links F sources rs (routesAt s at (length rs * (f + 1)))
@@ -169,13 +169,13 @@ module _ (n f : ℕ) (links : Links) (F : ℕ) (few : n ≤ 8) (s : List ℕ) wh
 
     -- the check goes on after the routes to the first receiver
     fan-one : (r : ℕ) (rs : List ℕ) (us : List Route) (at c : ℕ) → length us ≡ f + 1 → Separated r us → Span s at (encodeRoutes command us)
-        → checkGroups n links F s (fan f command sources (r ∷ rs)) at c ≡ checkGroups n links F s (fan f command sources rs) (at + 9 * (f + 1)) (c + (f + 1))
+        → checkGroups (minus (full n) F) links s (fan f command sources (r ∷ rs)) at c ≡ checkGroups (minus (full n) F) links s (fan f command sources rs) (at + 9 * (f + 1)) (c + (f + 1))
     unfolding fan checkGroups
     fan-one r rs us at c l o b =
         let e = group-backward n links F few s (groupTo r) wide us at c 0 (o .0) (o .1) b in
-        ap (λ (p : Progress). andThen p (λ (a′ c′ : ℕ). checkGroups n links F s (fan f command sources rs) a′ c′)) (rw l at e)
+        ap (λ (p : Progress). andThen p (λ (a′ c′ : ℕ). checkGroups (minus (full n) F) links s (fan f command sources rs) a′ c′)) (rw l at e)
 
-    fan-zero : (at c k : ℕ) → k ≡ 0 → checkGroups n links F s (fan f command sources []) at c ≡ reached (at + 9 * k) (c + k)
+    fan-zero : (at c k : ℕ) → k ≡ 0 → checkGroups (minus (full n) F) links s (fan f command sources []) at c ≡ reached (at + 9 * k) (c + k)
     unfolding fan checkGroups
     fan-zero at c k z = let e : at + 9 * k ≡ at = omega arith in let d : c + k ≡ c = omega arith in rw (e, d) refl
 
@@ -185,7 +185,7 @@ module _ (n f : ℕ) (links : Links) (F : ℕ) (few : n ≤ 8) (s : List ℕ) wh
 
     -- the check accepts a fan
     fan-from : (rs : List ℕ) (ps : List Route) (at c : ℕ) → FanTo n f links F sources rs ps → Span s at (encodeRoutes command ps)
-        → checkGroups n links F s (fan f command sources rs) at c ≡ reached (at + 9 * length ps) (c + length ps)
+        → checkGroups (minus (full n) F) links s (fan f command sources rs) at c ≡ reached (at + 9 * length ps) (c + length ps)
     fan-from [] ps at c h b = fan-zero at c (length ps) (no-routes ps h)
     fan-from (r ∷ rs) ps at c h b =
         let (us, vs, e, l, o, t) = fan-cut r rs ps h in
@@ -199,7 +199,7 @@ module _ (n f : ℕ) (links : Links) (F : ℕ) (few : n ≤ 8) (s : List ℕ) wh
         fan-one r rs us at c l o (span-left s at (encodeRoutes command us) (encodeRoutes command vs) d) ∙ ih ∙ ap₂ reached x y
 
   pub fan-forward : (command sources receivers at c a c′ : ℕ) → width command ≡ 9
-      → checkGroups n links F s (fan f command sources (members receivers)) at c ≡ reached a c′
+      → checkGroups (minus (full n) F) links s (fan f command sources (members receivers)) at c ≡ reached a c′
       → (a ≡ at + 9 * (size receivers * (f + 1))) × (c′ ≡ c + size receivers * (f + 1))
       × Span s at (encodeRoutes command (routesAt s at (size receivers * (f + 1))))
       × Fan n f links F sources receivers (routesAt s at (size receivers * (f + 1)))
@@ -210,6 +210,6 @@ module _ (n f : ℕ) (links : Links) (F : ℕ) (few : n ≤ 8) (s : List ℕ) wh
 
   pub fan-backward : (command sources receivers at c : ℕ) (ps : List Route) → width command ≡ 9
       → Fan n f links F sources receivers ps → Span s at (encodeRoutes command ps)
-      → checkGroups n links F s (fan f command sources (members receivers)) at c ≡ reached (at + 9 * length ps) (c + length ps)
+      → checkGroups (minus (full n) F) links s (fan f command sources (members receivers)) at c ≡ reached (at + 9 * length ps) (c + length ps)
   fan-backward command sources receivers at c ps wide h b =
       fan-from command sources wide (members receivers) ps at c (record { order = h .order; start = h .start; routes = h .routes; separate = h .separate }) b

@@ -9,20 +9,21 @@
 -- Assumes nothing.
 use mathlib.Core.Path.{_≡_, refl, sym, ap, _∙_, subst}
 use mathlib.Core.Logic.{⊎-elim}
-use mathlib.Core.Bool.{false}
+use mathlib.Core.Bool.{true, false}
 use mathlib.Core.List.{List, [], _∷_, _++_, map, append-assoc, List·Memᴰ·head, List·Memᴰ·tail, List·Memᴰ·cases-cons, List·Memᴰ·append-cases, Memᴰ·append-left, cons-ne-nil, head-eq-of-cons-eq, tail-eq-of-cons-eq}
 use Prim.Native.Nat.{ℕ, zero, suc, _+_, _-_, _*_, _≤_, _<_}
 use native.Mathlib.Omega.{arith}
 use lib.ListN.{length, getD, take, drop, length-append, length-drop, take-append-drop}
 use lib.Seq.{drop-drop, drop-cons, getD-drop, length-take-le, take-at}
 use lib.Dec.{eqb}
-use borrow.Author.Tests.{lt-ltb, le-ltb, eq-eqb, eqb-true}
+use borrow.Author.Tests.{lt-ltb, le-ltb, eq-eqb, ne-eqb, eqb-true, eqb-false}
 use Rattle.facts.proofs.Bools.{cases}
 use Rattle.sets.specs.Sets.{In, has, union, meet, minus, single, full}
 use Rattle.sets.proofs.Members.{meet-comm, minus-small, apart-union, apart-left, apart-right}
 use Rattle.network.specs.Links.{Links}
 use Rattle.plan.specs.Due.{Group}
-use Rattle.route.specs.Route.{path, serversOf, isRoute}
+use Rattle.route.specs.Route.{path, serversOf, isRoute, routeSet}
+use Rattle.route.proofs.Walks.{route-set, set-some, set-route, set-is}
 use Rattle.route.specs.Commands.{width, isCut}
 use Rattle.plan.specs.Check.{reached, isDue, routeAt, checkGroup}
 use Rattle.plan.proofs.Groups.{whole-command}
@@ -30,7 +31,7 @@ use Rattle.rules.specs.Blocks.{Route, sourceOf, receiverOf, operand, enc
 use Rattle.facts.specs.Lists.{Each}
 use Rattle.rules.specs.Rules.{IsRoute, Separate, AllSeparate}
 use Rattle.rules.proofs.Progress.{stopped-reached, reached-same, due-forward}
-use Rattle.rules.proofs.Routes.{route-rules, rules-route, operand-path, operand-long, servers-small, separate-apart, apart-separate}
+use Rattle.rules.proofs.Routes.{sound-small, route-rules, rules-route, operand-path, operand-long, servers-small, separate-apart, apart-separate}
 use Rattle.rules.proofs.Spans.{Span, span-append, span-left, span-right}
 
 -- the first of a list and the others
@@ -99,12 +100,15 @@ encode-long n links F few command (p ∷ ps) h =
 -- the command at a place
 
 module _ (s : List ℕ) (at command : ℕ) (wide : width command ≡ 9) where
-  pub route-long : isCut s at ≡ false → getD s at 0 ≡ command → length (routeAt s at) ≡ 8
-  unfolding routeAt
-  route-long e q =
+  pub route-whole : isCut s at ≡ false → getD s at 0 ≡ command → 8 ≤ length (drop (at + 1) s)
+  route-whole e q =
       let z = whole-command s at 9 e (ap width q ∙ wide) in
       let l = length-drop (at + 1) s in
-      length-take-le 8 (drop (at + 1) s) (omega arith)
+      omega arith
+
+  pub route-long : isCut s at ≡ false → getD s at 0 ≡ command → length (routeAt s at) ≡ 8
+  unfolding routeAt
+  route-long e q = length-take-le 8 (drop (at + 1) s) (route-whole e q)
 
   pub route-span : isCut s at ≡ false → getD s at 0 ≡ command → Span s at (command ∷ routeAt s at)
   unfolding routeAt
@@ -161,33 +165,40 @@ module _ (n : ℕ) (links : Links) (F : ℕ) (few : n ≤ 8) (s : List ℕ) (g :
   others-small : (p : Route) → IsRoute n links F p → others p < 256
   others-small p h = minus-small 8 (serversOf p) (single (g .receiver)) (servers-small n links F few p h)
 
-  pub group-none : (at c used a c′ : ℕ) → checkGroup n links F s g zero at c used ≡ reached a c′ → (at ≡ a) × (c ≡ c′)
+  -- the set that the route check yields at a place
+  abbrev setAt : ℕ → ℕ
+  setAt at = routeSet (minus (full n) F) links (g .sources) (g .receiver) (drop (at + 1) s)
+
+  pub group-none : (at c used a c′ : ℕ) → checkGroup (minus (full n) F) links s g zero at c used ≡ reached a c′ → (at ≡ a) × (c ≡ c′)
   unfolding checkGroup
   group-none at c used a c′ e = reached-same at c a c′ e
 
-  pub group-zero : (at c used : ℕ) → checkGroup n links F s g zero at c used ≡ reached (at + 0) (c + 0)
+  pub group-zero : (at c used : ℕ) → checkGroup (minus (full n) F) links s g zero at c used ≡ reached (at + 0) (c + 0)
   unfolding checkGroup
   group-zero at c used = let e : at + 0 ≡ at = omega arith in let d : c + 0 ≡ c = omega arith in rw (e, d) refl
 
   -- the first route of what the check accepts
-  pub group-first : (k at c used a c′ : ℕ) → checkGroup n links F s g (suc k) at c used ≡ reached a c′
+  pub group-first : (k at c used a c′ : ℕ) → checkGroup (minus (full n) F) links s g (suc k) at c used ≡ reached a c′
       → Span s at (g .command ∷ operand (path (routeAt s at)))
       × OfGroup n links F (g .sources) (g .receiver) used (path (routeAt s at))
-      × (checkGroup n links F s g k (at + 9) (c + 1) (union used (others (path (routeAt s at)))) ≡ reached a c′)
-  unfolding checkGroup
+      × (checkGroup (minus (full n) F) links s g k (at + 9) (c + 1) (union used (others (path (routeAt s at)))) ≡ reached a c′)
+  unfolding checkGroup routeAt
   group-first k at c used a c′ e =
       let d = due-forward s at (g .command) _ a c′ e in
       let l = route-long s at (g .command) wide (d .0) (d .1) in
-      cases (isRoute (minus (full n) F) links (g .sources) (g .receiver) (routeAt s at))
-      (λ p. let h = route-rules n links F few (g .sources) (g .receiver) (routeAt s at) l p in
-      cases (eqb (meet used (others (path (routeAt s at)))) 0)
+      let w = route-whole s at (g .command) wide (d .0) (d .1) in
+      cases (eqb (setAt at) 0)
+      (λ p. stopped-reached 9 at a c′ (sym (simp p) ∙ d .2))
+      (λ p. let some = eqb-false (setAt at) 0 p in
+      let h = route-rules n links F few (g .sources) (g .receiver) (routeAt s at) l (set-route (minus (full n) F) links (g .sources) (g .receiver) (sound-small n links F few) (drop (at + 1) s) w refl some) in
+      let x : setAt at ≡ serversOf (path (routeAt s at)) = set-is (minus (full n) F) links (g .sources) (g .receiver) (sound-small n links F few) (drop (at + 1) s) w refl some in
+      cases (eqb (meet used (minus (setAt at) (single (g .receiver)))) 0)
       (λ q. (
         rw (h .3) (route-span s at (g .command) wide (d .0) (d .1)),
-        record { sound = h .0; start = h .1; last = h .2; unused = eqb-true _ 0 q },
-        sym (simp (p, q)) ∙ d .2,
+        record { sound = h .0; start = h .1; last = h .2; unused = rw (← x) (eqb-true _ 0 q) },
+        rw (← x) (sym (simp (p, q)) ∙ d .2),
       ))
       (λ q. stopped-reached 10 at a c′ (sym (simp (p, q)) ∙ d .2)))
-      (λ p. stopped-reached 9 at a c′ (sym (simp p) ∙ d .2))
 
   -- a route is apart from the servers in use and from those of p exactly if it is apart from both
   module _ (used : ℕ) (p q : Route) (h : IsRoute n links F q) where
@@ -205,7 +216,7 @@ module _ (n : ℕ) (links : Links) (F : ℕ) (few : n ≤ 8) (s : List ℕ) (g :
         ∙ apart-union 8 (others q) used (others p) (others-small q h) (meet-comm (others q) used ∙ e) (meet-comm (others q) (others p) ∙ d)
 
   -- the check accepts only separate routes to the receiver
-  pub group-forward : (k at c used a c′ : ℕ) → checkGroup n links F s g k at c used ≡ reached a c′
+  pub group-forward : (k at c used a c′ : ℕ) → checkGroup (minus (full n) F) links s g k at c used ≡ reached a c′
       → (a ≡ at + 9 * k) × (c′ ≡ c + k)
       × Span s at (encodeRoutes (g .command) (routesAt s at k))
       × Each (OfGroup n links F (g .sources) (g .receiver) used) (routesAt s at k)
@@ -229,21 +240,23 @@ module _ (n : ℕ) (links : Links) (F : ℕ) (few : n ≤ 8) (s : List ℕ) (g :
 
   -- the check goes on after a route of the group
   pub group-one : (k at c used : ℕ) (p : Route) → OfGroup n links F (g .sources) (g .receiver) used p → Span s at (g .command ∷ operand p)
-      → checkGroup n links F s g (suc k) at c used ≡ checkGroup n links F s g k (at + 9) (c + 1) (union used (others p))
-  unfolding checkGroup isDue
+      → checkGroup (minus (full n) F) links s g (suc k) at c used ≡ checkGroup (minus (full n) F) links s g k (at + 9) (c + 1) (union used (others p))
+  unfolding checkGroup isDue routeAt
   group-one k at c used p o b =
       let l = operand-long n links F few p (o .sound) in
       let r : routeAt s at ≡ operand p = span-route s at (g .command) wide (operand p) l b in
       let w = span-whole s at (g .command) wide (operand p) l b in
       let q = eq-eqb (getD s at 0) (g .command) (span-command s at (g .command) wide (operand p) l b) in
       let t = rules-route n links F few (g .sources) (g .receiver) p (o .sound) (o .start) (o .last) in
-      let x = operand-path n links F few p (o .sound) in
+      let y : isRoute (minus (full n) F) links (g .sources) (g .receiver) (take 8 (drop (at + 1) s)) ≡ true = ap (isRoute (minus (full n) F) links (g .sources) (g .receiver)) r ∙ t in
+      let x : setAt at ≡ serversOf p = route-set (minus (full n) F) links (g .sources) (g .receiver) (sound-small n links F few) (drop (at + 1) s) (route-whole s at (g .command) wide w (eqb-true _ _ q)) y ∙ ap (λ (b : List ℕ). serversOf (path b)) r ∙ ap serversOf (operand-path n links F few p (o .sound)) in
+      let z = ne-eqb (serversOf p) 0 (λ e. set-some (minus (full n) F) links (g .sources) (g .receiver) (sound-small n links F few) (drop (at + 1) s) y (ap (λ (b : List ℕ). serversOf (path b)) r ∙ ap serversOf (operand-path n links F few p (o .sound)) ∙ e)) in
       let u = eq-eqb (meet used (others p)) 0 (o .unused) in
-      simp (w, q, r, t, x, u)
+      simp (w, q, x, z, u)
 
   -- the check accepts separate routes to the receiver
   pub group-backward : (ps : List Route) (at c used : ℕ) → Each (OfGroup n links F (g .sources) (g .receiver) used) ps → AllSeparate ps
-      → Span s at (encodeRoutes (g .command) ps) → checkGroup n links F s g (length ps) at c used ≡ reached (at + 9 * length ps) (c + length ps)
+      → Span s at (encodeRoutes (g .command) ps) → checkGroup (minus (full n) F) links s g (length ps) at c used ≡ reached (at + 9 * length ps) (c + length ps)
   unfolding encodeRoutes
   group-backward [] at c used h d b = group-zero at c used
   group-backward (p ∷ ps) at c used h d b =

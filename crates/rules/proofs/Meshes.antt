@@ -13,7 +13,7 @@ use lib.Dec.{eqb, ltb}
 use lib.ListN.{length, length-append}
 use borrow.Author.Tests.{lt-ltb, eq-eqb, ne-eqb, eqb-true, eqb-false}
 use Rattle.facts.proofs.Bools.{cases, by-cond, and-right, both}
-use Rattle.sets.specs.Sets.{In, has, single}
+use Rattle.sets.specs.Sets.{In, has, single, minus, full}
 use Rattle.sets.proofs.Members.{has-single, meet-nothing}
 use Rattle.network.specs.Links.{Links}
 use Rattle.plan.specs.Members.{members}
@@ -117,23 +117,23 @@ module _ (n : ℕ) (links : Links) (F : ℕ) (few : n ≤ 8) (s : List ℕ) wher
   unfolding width
   wide = refl
 
-  mesh-none : (at c a c′ : ℕ) → checkGroups n links F s [] at c ≡ reached a c′ → (at ≡ a) × (c ≡ c′)
+  mesh-none : (at c a c′ : ℕ) → checkGroups (minus (full n) F) links s [] at c ≡ reached a c′ → (at ≡ a) × (c ≡ c′)
   unfolding checkGroups
   mesh-none at c a c′ e = reached-same at c a c′ e
 
   -- the first route of what the check accepts
-  mesh-first : (e : ℕ × ℕ) (es : List (ℕ × ℕ)) (at c a c′ : ℕ) → checkGroups n links F s (map groupOf (e ∷ es)) at c ≡ reached a c′
+  mesh-first : (e : ℕ × ℕ) (es : List (ℕ × ℕ)) (at c a c′ : ℕ) → checkGroups (minus (full n) F) links s (map groupOf (e ∷ es)) at c ≡ reached a c′
       → Span s at (0x12 ∷ operand (path (routeAt s at))) × IsRoute n links F (path (routeAt s at)) × (endsOf (path (routeAt s at)) ≡ e)
-      × (checkGroups n links F s (map groupOf es) (at + 9) (c + 1) ≡ reached a c′)
+      × (checkGroups (minus (full n) F) links s (map groupOf es) (at + 9) (c + 1) ≡ reached a c′)
   unfolding checkGroups
   mesh-first e es at c a c′ h =
-      let (a₀, c₀, p, q) = then-forward (checkGroup n links F s (groupOf e) 1 at c 0) (λ (b d : ℕ). checkGroups n links F s (map groupOf es) b d) a c′ h in
+      let (a₀, c₀, p, q) = then-forward (checkGroup (minus (full n) F) links s (groupOf e) 1 at c 0) (λ (b d : ℕ). checkGroups (minus (full n) F) links s (map groupOf es) b d) a c′ h in
       let (b, o, t) = group-first n links F few s (groupOf e) wide 0 at c 0 a₀ c₀ p in
       let z = group-none n links F few s (groupOf e) wide (at + 9) (c + 1) _ a₀ c₀ t in
       (b, o .sound, ap₂ (λ (r x : ℕ). (r, x)) (o .last) (in-single (e .1) (sourceOf (path (routeAt s at))) (o .start)), rw (← z .0, ← z .1) at q)
 
   -- the check accepts only routes with these ends
-  mesh-to : (es : List (ℕ × ℕ)) (at c a c′ : ℕ) → checkGroups n links F s (map groupOf es) at c ≡ reached a c′
+  mesh-to : (es : List (ℕ × ℕ)) (at c a c′ : ℕ) → checkGroups (minus (full n) F) links s (map groupOf es) at c ≡ reached a c′
       → (a ≡ at + 9 * length es) × (c′ ≡ c + length es)
       × Span s at (encodeRoutes 0x12 (routesAt s at (length es)))
       × (map endsOf (routesAt s at (length es)) ≡ es) × Each (IsRoute n links F) (routesAt s at (length es))
@@ -156,22 +156,22 @@ module _ (n : ℕ) (links : Links) (F : ℕ) (few : n ≤ 8) (s : List ℕ) wher
 
   -- the check goes on after a route with the first ends
   mesh-one : (e : ℕ × ℕ) (es : List (ℕ × ℕ)) (p : Route) (at c : ℕ) → e .1 < 8 → endsOf p ≡ e → IsRoute n links F p → Span s at (encodeRoutes 0x12 (p ∷ []))
-      → checkGroups n links F s (map groupOf (e ∷ es)) at c ≡ checkGroups n links F s (map groupOf es) (at + 9) (c + 1)
+      → checkGroups (minus (full n) F) links s (map groupOf (e ∷ es)) at c ≡ checkGroups (minus (full n) F) links s (map groupOf es) (at + 9) (c + 1)
   unfolding checkGroups
   mesh-one e es p at c h q o b =
       let x : sourceOf p ≡ e .1 = ap (λ (y : ℕ × ℕ). y .1) q in
       let start : In (has (single (e .1))) (sourceOf p) = rw x (single-in (e .1) h) in
       let first : OfGroup n links F (single (e .1)) (e .0) 0 p = record { sound = o; start = start; last = ap (λ (y : ℕ × ℕ). y .0) q; unused = meet-nothing _ } in
       let t = group-backward n links F few s (groupOf e) wide (p ∷ []) at c 0 (each-cons (OfGroup n links F (single (e .1)) (e .0) 0) p [] first (λ y m. elim m [ ])) (λ y m. elim m [ ], tt) b in
-      ap (λ (y : Progress). andThen y (λ (a′ c′ : ℕ). checkGroups n links F s (map groupOf es) a′ c′)) t
+      ap (λ (y : Progress). andThen y (λ (a′ c′ : ℕ). checkGroups (minus (full n) F) links s (map groupOf es) a′ c′)) t
 
-  mesh-zero : (at c : ℕ) → checkGroups n links F s [] at c ≡ reached (at + 0) (c + 0)
+  mesh-zero : (at c : ℕ) → checkGroups (minus (full n) F) links s [] at c ≡ reached (at + 0) (c + 0)
   unfolding checkGroups
   mesh-zero at c = let e : at + 0 ≡ at = omega arith in let d : c + 0 ≡ c = omega arith in rw (e, d) refl
 
   -- the check accepts routes with these ends
   mesh-from : (es : List (ℕ × ℕ)) (ps : List Route) (at c : ℕ) → Each (λ (e : ℕ × ℕ). e .1 < 8) es → map endsOf ps ≡ es → Each (IsRoute n links F) ps
-      → Span s at (encodeRoutes 0x12 ps) → checkGroups n links F s (map groupOf es) at c ≡ reached (at + 9 * length ps) (c + length ps)
+      → Span s at (encodeRoutes 0x12 ps) → checkGroups (minus (full n) F) links s (map groupOf es) at c ≡ reached (at + 9 * length ps) (c + length ps)
   mesh-from [] [] at c h q o b = mesh-zero at c
   mesh-from [] (p ∷ ps) at c h q o b = absurd (cons-ne-nil (endsOf p) (map endsOf ps) q)
   mesh-from (e ∷ es) [] at c h q o b = absurd (cons-ne-nil e es (sym q))
@@ -187,7 +187,7 @@ module _ (n : ℕ) (links : Links) (F : ℕ) (few : n ≤ 8) (s : List ℕ) wher
       mesh-one e es p at c (h e (List·Memᴰ·head refl)) (head-eq-of-cons-eq q) r first ∙ ih ∙ ap₂ reached x y
 
 module _ (n f : ℕ) (links : Links) (F : ℕ) (few : n ≤ 8) (s : List ℕ) where
-  pub mesh-forward : (S at c a c′ : ℕ) → checkGroups n links F s (pairs (members S) (members S)) at c ≡ reached a c′
+  pub mesh-forward : (S at c a c′ : ℕ) → checkGroups (minus (full n) F) links s (pairs (members S) (members S)) at c ≡ reached a c′
       → (a ≡ at + 9 * amongDue S) × (c′ ≡ c + amongDue S)
       × Span s at (encodeRoutes 0x12 (routesAt s at (amongDue S)))
       × Mesh n links F S (routesAt s at (amongDue S))
@@ -197,7 +197,7 @@ module _ (n f : ℕ) (links : Links) (F : ℕ) (few : n ≤ 8) (s : List ℕ) wh
       (p, q, b, record { order = e; routes = o })
 
   pub mesh-backward : (S at c : ℕ) (ps : List Route) → Mesh n links F S ps → Span s at (encodeRoutes 0x12 ps)
-      → checkGroups n links F s (pairs (members S) (members S)) at c ≡ reached (at + 9 * length ps) (c + length ps)
+      → checkGroups (minus (full n) F) links s (pairs (members S) (members S)) at c ≡ reached (at + 9 * length ps) (c + length ps)
   mesh-backward S at c ps h b =
       let small : Each (λ (e : ℕ × ℕ). e .1 < 8) (pairsOf (members S) (members S)) = pair-sources (λ x. x < 8) (members S) (members S) (λ x m. members-in S x m .1) in
       rw (pair-groups (members S) (members S)) (mesh-from n links F few s (pairsOf (members S) (members S)) ps at c small (h .order) (h .routes) b)

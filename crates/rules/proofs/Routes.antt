@@ -2,6 +2,7 @@
 --     route-rules      the bytes of a route that keeps the rules; rules-route the other way
 --     operand-path     the servers of a route's operand are the route's
 --     operand-long     the operand of a route has eight bytes
+--     sound-small      V−F is a set of eight
 --     servers-small    the servers of a route are a set of eight
 --     servers-has      each server of a route is in its set; servers-index the other way
 --     separate-apart   separate routes to one receiver: their sets without the receiver do not meet; apart-separate the other way
@@ -16,7 +17,7 @@ use lib.Dec.{eqb, ltb}
 use lib.ListN.{length, getD, replicate, length-append, length-replicate}
 use borrow.Author.Tests.{lt-ltb, eq-eqb, ne-eqb, ltb-true, eqb-true, eqb-false}
 use Rattle.facts.proofs.Bools.{cases, clash, is-false, and-left, and-right, both, not-true}
-use Rattle.sets.specs.Sets.{In, has, union, single, meet, minus, full}
+use Rattle.sets.specs.Sets.{In, has, single, meet, minus, full}
 use Rattle.sets.proofs.Members.{has-union, has-minus, has-single, has-empty, has-below, has-full, full-small, union-small, minus-small, meet-apart, apart-meet}
 use Rattle.network.specs.Links.{Links, linkedIn}
 use Rattle.route.specs.Route.{path, isFill, filled, serversOf, goesOn, isPath, isRoute}
@@ -225,7 +226,7 @@ module _ (n : ℕ) (links : Links) (F : ℕ) (few : n ≤ 8) where
   abbrev W : ℕ
   W = minus (full n) F
 
-  sound-small : W < 256
+  pub sound-small : W < 256
   sound-small = minus-small 8 (full n) F (let p : 2 ^ n ≤ 2 ^ 8 = pow-mono few in let l = full-small n in omega arith)
 
   in-sound : (x : ℕ) → has W x ≡ (ltb x n && not (has F x))

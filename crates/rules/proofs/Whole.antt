@@ -120,20 +120,20 @@ module _ (n f : ℕ) (links : Links) (few : n ≤ 8) where
 
     -- the three kinds in a row
     routes-row : (at c : ℕ)
-        → checkGroups n links F s (routesDue n f F A S) at c
-        ≡ andThen (andThen (checkGroups n links F s inward at c) (λ (a c : ℕ). checkGroups n links F s among a c)) (λ (a c : ℕ). checkGroups n links F s outward a c)
+        → checkGroups (minus (full n) F) links s (routesDue n f F A S) at c
+        ≡ andThen (andThen (checkGroups (minus (full n) F) links s inward at c) (λ (a c : ℕ). checkGroups (minus (full n) F) links s among a c)) (λ (a c : ℕ). checkGroups (minus (full n) F) links s outward a c)
     unfolding routesDue
     routes-row at c =
-        groups-append n links F s (inward ++ among) outward at c
-        ∙ ap (λ (p : Progress). andThen p (λ (a c : ℕ). checkGroups n links F s outward a c)) (groups-append n links F s inward among at c)
+        groups-append (minus (full n) F) links s (inward ++ among) outward at c
+        ∙ ap (λ (p : Progress). andThen p (λ (a c : ℕ). checkGroups (minus (full n) F) links s outward a c)) (groups-append (minus (full n) F) links s inward among at c)
 
     -- where each kind ends
-    routes-parts : (a c : ℕ) → checkGroups n links F s (routesDue n f F A S) 4 0 ≡ reached a c
-        → (a1 c1 a2 c2 : ℕ) × (checkGroups n links F s inward 4 0 ≡ reached a1 c1) × (checkGroups n links F s among a1 c1 ≡ reached a2 c2)
-        × (checkGroups n links F s outward a2 c2 ≡ reached a c)
+    routes-parts : (a c : ℕ) → checkGroups (minus (full n) F) links s (routesDue n f F A S) 4 0 ≡ reached a c
+        → (a1 c1 a2 c2 : ℕ) × (checkGroups (minus (full n) F) links s inward 4 0 ≡ reached a1 c1) × (checkGroups (minus (full n) F) links s among a1 c1 ≡ reached a2 c2)
+        × (checkGroups (minus (full n) F) links s outward a2 c2 ≡ reached a c)
     routes-parts a c e =
-        let (a2, c2, e2, e3) = then-forward (andThen (checkGroups n links F s inward 4 0) (λ (a c : ℕ). checkGroups n links F s among a c)) (λ (a c : ℕ). checkGroups n links F s outward a c) a c (sym (routes-row 4 0) ∙ e) in
-        let (a1, c1, e0, e1) = then-forward (checkGroups n links F s inward 4 0) (λ (a c : ℕ). checkGroups n links F s among a c) a2 c2 e2 in
+        let (a2, c2, e2, e3) = then-forward (andThen (checkGroups (minus (full n) F) links s inward 4 0) (λ (a c : ℕ). checkGroups (minus (full n) F) links s among a c)) (λ (a c : ℕ). checkGroups (minus (full n) F) links s outward a c) a c (sym (routes-row 4 0) ∙ e) in
+        let (a1, c1, e0, e1) = then-forward (checkGroups (minus (full n) F) links s inward 4 0) (λ (a c : ℕ). checkGroups (minus (full n) F) links s among a c) a2 c2 e2 in
         (a1, c1, a2, c2, e0, e1, e3)
 
     abbrev RoutesFrom : (a c : ℕ) → Type 0
@@ -144,8 +144,8 @@ module _ (n f : ℕ) (links : Links) (few : n ≤ 8) where
         × Span s (4 + 9 * ins + 9 * mids) (encodeRoutes 0x13 (routesAt s (4 + 9 * ins + 9 * mids) outs))
         × Fan n f links F S (minus (minus (full n) F) S) (routesAt s (4 + 9 * ins + 9 * mids) outs)
 
-    routes-from : (a1 c1 a2 c2 a c : ℕ) → checkGroups n links F s inward 4 0 ≡ reached a1 c1 → checkGroups n links F s among a1 c1 ≡ reached a2 c2
-        → checkGroups n links F s outward a2 c2 ≡ reached a c → RoutesFrom a c
+    routes-from : (a1 c1 a2 c2 a c : ℕ) → checkGroups (minus (full n) F) links s inward 4 0 ≡ reached a1 c1 → checkGroups (minus (full n) F) links s among a1 c1 ≡ reached a2 c2
+        → checkGroups (minus (full n) F) links s outward a2 c2 ≡ reached a c → RoutesFrom a c
     unfolding inwardDue outwardDue width
     routes-from a1 c1 a2 c2 a c e0 e1 e3 =
         let (p1, q1, s1, f1) = fan-forward n f links F few s 0x11 A (minus S A) 4 0 a1 c1 refl e0 in
@@ -153,14 +153,14 @@ module _ (n f : ℕ) (links : Links) (few : n ≤ 8) where
         let (p3, q3, s3, f3) = fan-forward n f links F few s 0x13 S (minus (minus (full n) F) S) (4 + 9 * ins + 9 * mids) c2 a c refl (rw p2 at e3) in
         (p3, omega arith, s1, f1, s2, f2, s3, f3)
 
-    routes-forward : (a c : ℕ) → checkGroups n links F s (routesDue n f F A S) 4 0 ≡ reached a c → RoutesFrom a c
+    routes-forward : (a c : ℕ) → checkGroups (minus (full n) F) links s (routesDue n f F A S) 4 0 ≡ reached a c → RoutesFrom a c
     routes-forward a c e = let (a1, c1, a2, c2, e0, e1, e3) = routes-parts a c e in routes-from a1 c1 a2 c2 a c e0 e1 e3
 
     routes-backward : (is ms os : List Route)
         → Fan n f links F A (minus S A) is → Mesh n links F S ms → Fan n f links F S (minus (minus (full n) F) S) os
         → Span s 4 (encodeRoutes 0x11 is) → Span s (4 + 9 * length is) (encodeRoutes 0x12 ms)
         → Span s (4 + 9 * length is + 9 * length ms) (encodeRoutes 0x13 os)
-        → checkGroups n links F s (routesDue n f F A S) 4 0
+        → checkGroups (minus (full n) F) links s (routesDue n f F A S) 4 0
         ≡ reached (4 + 9 * length is + 9 * length ms + 9 * length os) (0 + length is + length ms + length os)
     unfolding width
     routes-backward is ms os f1 f2 f3 s1 s2 s3 =
@@ -186,7 +186,7 @@ module _ (n f : ℕ) (links : Links) (few : n ≤ 8) where
 
     block-parts : (a c : ℕ) → checkBlock n f links s d ≡ reached a c
         → (a3 c3 : ℕ) × (isCut s 0 ≡ false) × (getD s 0 0 ≡ 0x10) × (F ≡ d .faults) × ((A ≡ d .part) ⊎ (A ≡ minus W (d .part)))
-        × (S ≡ 0 → ⊥) × (within S W ≡ true) × (checkGroups n links F s (routesDue n f F A S) 4 0 ≡ reached a3 c3)
+        × (S ≡ 0 → ⊥) × (within S W ≡ true) × (checkGroups (minus (full n) F) links s (routesDue n f F A S) 4 0 ≡ reached a3 c3)
         × (checkReports n f links F s (members F) a3 c3 ≡ reached a c)
     unfolding checkBlock
     block-parts a c e =
@@ -194,7 +194,7 @@ module _ (n f : ℕ) (links : Links) (few : n ≤ 8) where
         let (cut, is, e1) = due-forward s 0 0x10 _ a c e in
         let (t1, e2) = cond-true (eqb F (d .faults) && sides) _ 7 0 a c e1 in
         let (t2, e3) = cond-true (not (eqb S 0) && within S W) _ 8 0 a c e2 in
-        let (a3, c3, e4, e5) = then-forward (checkGroups n links F s (routesDue n f F A S) 4 0) (λ (a c : ℕ). checkReports n f links F s (members F) a c) a c e3 in
+        let (a3, c3, e4, e5) = then-forward (checkGroups (minus (full n) F) links s (routesDue n f F A S) 4 0) (λ (a c : ℕ). checkReports n f links F s (members F) a c) a c e3 in
         let side = ⊎-elim (λ q. inl (eqb-true A (d .part) q)) (λ q. inr (eqb-true A (minus W (d .part)) q)) (or-cases (eqb A (d .part)) _ (and-right (eqb F (d .faults)) sides t1)) in
         let some = eqb-false S 0 (not-true (eqb S 0) (and-left (not (eqb S 0)) _ t2)) in
         (a3, c3, cut, is, eqb-true F (d .faults) (and-left (eqb F (d .faults)) sides t1), side, some, and-right (not (eqb S 0)) (within S W) t2, e4, e5)
@@ -291,7 +291,7 @@ module _ (n f : ℕ) (links : Links) (few : n ≤ 8) where
         cc
 
     rest-backward : Span s 4 (encodeRoutes 0x11 (b .inward) ++ encodeRoutes 0x12 (b .among) ++ encodeRoutes 0x13 (b .outward) ++ encodeReports (b .reports))
-        → andThen (checkGroups n links (b .faults) s (routesDue n f (b .faults) (b .side) (b .quorum)) 4 0) (λ (a c : ℕ). checkReports n f links (b .faults) s (members (b .faults)) a c)
+        → andThen (checkGroups (minus (full n) (b .faults)) links s (routesDue n f (b .faults) (b .side) (b .quorum)) 4 0) (λ (a c : ℕ). checkReports n f links (b .faults) s (members (b .faults)) a c)
         ≡ reached (lengthOf b) (length (carriagesOf b))
     unfolding lengthOf
     rest-backward p =

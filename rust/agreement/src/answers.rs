@@ -133,13 +133,10 @@ pub fn totals_or_refusal(answer: [u64; 4]) -> Option<Result<Totals, Refusal>> {
 /// be seen from its words.
 pub fn load_or_refusal(answer: [u64; 9]) -> Option<Result<Load, Refusal>> {
     match answer {
-        [ANSWERED, counts @ ..] => {
-            let mut routes = [0; 8];
-            for (relayed, count) in routes.iter_mut().zip(counts) {
-                *relayed = usize::try_from(count).ok()?;
-            }
-            let possible = counts.iter().all(|count| *count <= MOST_RELAYED);
-            possible.then_some(Ok(Load { routes }))
+        [ANSWERED, counts @ ..] if counts.iter().all(|count| *count <= MOST_RELAYED) => {
+            Some(Ok(Load {
+                routes: counts.map(|count| count as usize),
+            }))
         }
         [REFUSED, refusal @ .., 0, 0, 0, 0, 0] => Some(Err(of_site(refusal, &[])?)),
         _ => None,

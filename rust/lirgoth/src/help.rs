@@ -82,8 +82,8 @@ lirgoth load SITE
 
 Says how many routes of SITE/network.plan each office relays, that is, stands on as neither
 source nor receiver, and which part of all relaying places that is: a line for each office,
-the widest relay first. Each office that relays a route is one relaying place. Refusals, and
-a bad split, are told as by explain.
+the widest relay first. A route has as many relaying places as offices between its source
+and its receiver. Refusals, and a bad split, are told as by explain.
 ";
 
 pub const DRILL: &str = "\
@@ -117,5 +117,6 @@ none, offices that leave the rest apart when they are taken away are coloured an
 letter K: as few as can be, and none where all links are there.
 
 Where SITE/network.plan is accepted, an office is the larger the more routes it relays, and
-their number stands beside it.
+their number stands beside it. A plan that is refused, or cannot be read, is told on standard
+error, and the picture is drawn without it.
 ";

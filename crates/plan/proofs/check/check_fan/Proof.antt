@@ -19,11 +19,11 @@ use Rattle.sets.proofs.minus.Reads as minus-reads
 use Rattle.sets.proofs.single.Reads as single-reads
 
 abbrev Inv-loop : tie.InvT-loop
-Inv-loop n rows fault plan start before command sources receivers f count at₀ carriages₀ left₀ at carriages left =
-    Taking 1 (length plan) (fanStep n (linksOf rows) fault plan f command sources) left (checkGroups n (linksOf rows) fault plan (fan f command sources (members receivers)) start before) at carriages
+Inv-loop sound rows plan start before command sources receivers f count at₀ carriages₀ left₀ at carriages left =
+    Taking 1 (length plan) (fanStep sound (linksOf rows) plan f command sources) left (checkGroups sound (linksOf rows) plan (fan f command sources (members receivers)) start before) at carriages
 
 abbrev μ-loop : tie.MeasureT-loop
-μ-loop n rows fault plan start before command sources receivers f count at₀ carriages₀ left₀ at carriages left =
+μ-loop sound rows plan start before command sources receivers f count at₀ carriages₀ left₀ at carriages left =
     length (members left)
 
 -- the lowest of the receivers that are left is taken out of them
@@ -34,7 +34,7 @@ add-count : tie.Need-add-count Inv-loop μ-loop
 add-count c = search needs
 
 loop-holds : tie.Need-loop-holds Inv-loop μ-loop
-loop-holds c = let s = c .before in taking-starts (search needs) (s .pre .1) (s .pre .2) (receiver-bound _ _ _ _ _ _ _ (s .pre .0)) (fan-walk _ _ _ _ _ _ _ _ _ _)
+loop-holds c = let s = c .before in taking-starts (search needs) (s .pre .1) (s .pre .2) (receiver-bound _ _ _ _ _ _ (s .pre .0)) (fan-walk _ _ _ _ _ _ _ _ _)
 
 lowest-requires : tie.Need-lowest-requires Inv-loop μ-loop
 lowest-requires c κs = search needs

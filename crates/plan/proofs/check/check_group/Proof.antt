@@ -2,10 +2,9 @@
 -- how many routes are left. A turn passes three points, `turn`, `due` and `shares`, and at each what is left to test gives that answer (`Groups`).
 -- Assumes nothing.
 use mathlib.Core.Path.{_≡_, refl, _∙_}
-use Prim.Native.Nat.{suc, min, _+_, _-_, _≤_}
+use Prim.Native.Nat.{suc, _+_, _-_, _≤_}
 use native.Mathlib.Omega.{arith}
 use borrow.Author.Needs.{needs}
-use Rattle.sets.specs.Sets.{minus, full}
 use Rattle.network.specs.Rows.{linksOf}
 use Rattle.plan.specs.Check.{checkGroup}
 use Rattle.plan.specs.Answers.{groupOf}
@@ -17,23 +16,22 @@ use Rattle.plan.proofs.check.check_group.Lts as lts
 use Rattle.plan.proofs.check.is_route_due.Reads as is-route-due-reads
 use Rattle.plan.proofs.check.not_due.Reads as not-due-reads
 use Rattle.route.proofs.check_route.Reads as check-route-reads
-use Rattle.sets.proofs.full.Reads as full-reads
 use Rattle.sets.proofs.meet.Reads as meet-reads
 use Rattle.sets.proofs.minus.Reads as minus-reads
 use Rattle.sets.proofs.single.Reads as single-reads
 use Rattle.sets.proofs.union.Reads as union-reads
 
 abbrev Inv-loop : tie.InvT-loop
-Inv-loop n rows fault plan start before command sources receiver count sound at₀ carriages₀ used₀ k₀ at carriages used k =
-    (k ≤ count) × (carriages ≤ at) × (checkGroup n (linksOf rows) fault plan (groupOf command sources receiver count) (count - k) at carriages used ≡ checkGroup n (linksOf rows) fault plan (groupOf command sources receiver count) count start before 0)
+Inv-loop sound rows plan start before command sources receiver count at₀ carriages₀ used₀ k₀ at carriages used k =
+    (k ≤ count) × (carriages ≤ at) × (checkGroup sound (linksOf rows) plan (groupOf command sources receiver count) (count - k) at carriages used ≡ checkGroup sound (linksOf rows) plan (groupOf command sources receiver count) count start before 0)
 
 abbrev μ-loop : tie.MeasureT-loop
-μ-loop n rows fault plan start before command sources receiver count sound at₀ carriages₀ used₀ k₀ at carriages used k =
+μ-loop sound rows plan start before command sources receiver count at₀ carriages₀ used₀ k₀ at carriages used k =
     count - k
 
 -- where the group starts
 abbrev begun : tie.In-loop Inv-loop μ-loop → tie.Start Inv-loop μ-loop
-begun c = c .before .before .before .before .before
+begun c = c .before .before .before
 
 -- inside the loop: what `Rest` says is still to test, of this turn's route and of those after it, gives the answer of the whole
 abbrev Left : tie.In-loop Inv-loop μ-loop → Point → Type 0
@@ -41,7 +39,7 @@ Left c Rest =
     let a = begun c .args in
     let l = c .before .loop in
     let g = groupOf (a .command) (a .sources) (a .receiver) (a .count) in
-    Rest (a .n) (linksOf (a .rows .now)) (a .fault) (a .plan .now) g (a .count - (l .k + 1)) (l .at) (l .carriages) (l .used) (checkGroup (a .n) (linksOf (a .rows .now)) (a .fault) (a .plan .now) g (a .count) (a .start) (a .before) 0)
+    Rest (a .sound) (linksOf (a .rows .now)) (a .plan .now) g (a .count - (l .k + 1)) (l .at) (l .carriages) (l .used) (checkGroup (a .sound) (linksOf (a .rows .now)) (a .plan .now) g (a .count) (a .start) (a .before) 0)
 
 -- a turn starts with all of its route to test
 turn : (c : tie.In-loop Inv-loop μ-loop) → Left c FromCommand
@@ -56,20 +54,13 @@ due : (c : tie.Then1 Inv-loop μ-loop) → Left (c .before .before) FromRoute
 due c = let i = c .before .before in group-due (turn i) (c .before .is-route-due .ensures) (c .if1 .taken) (begun i .pre .0)
 
 -- the route is sound and its servers are known: what it shares is next
-shares : (c : tie.After-minus2 Inv-loop μ-loop) → Left (c .before .before .before .before .before .before .before) (FromSharing (c .minus2 .result))
+shares : (c : tie.After-minus Inv-loop μ-loop) → Left (c .before .before .before .before .before .before .before) (FromSharing (c .minus .result))
 shares c =
     let r = c .before .before .before in
-    let i = r .before .before .before .before in
-    route-sound (due (r .before .before)) (begun i .pre .2) (i .before .before .before .full .ensures) (i .before .before .minus .ensures) (r .check-route .ensures) (c .before .before .if2 .left) (c .before .single .ensures) (c .minus2 .ensures)
-
-full-requires : tie.Need-full-requires Inv-loop μ-loop
-full-requires c κs = search needs
-
-minus-requires : tie.Need-minus-requires Inv-loop μ-loop
-minus-requires c κs = search needs
+    route-sound (due (r .before .before)) (r .check-route .ensures) (c .before .before .if2 .left) (c .before .single .ensures) (c .minus .ensures)
 
 loop-holds : tie.Need-loop-holds Inv-loop μ-loop
-loop-holds c = let e : c .before .before .before .args .count - 0 ≡ c .before .before .before .args .count = omega arith in (omega arith, c .before .before .before .pre .1, rw e refl)
+loop-holds c = let e : c .before .args .count - 0 ≡ c .before .args .count = omega arith in (omega arith, c .before .pre .1, rw e refl)
 
 is-route-due-requires : tie.Need-is-route-due-requires Inv-loop μ-loop
 is-route-due-requires c κs = search needs
@@ -96,13 +87,13 @@ check-route-requires : tie.Need-check-route-requires Inv-loop μ-loop
 check-route-requires c κs = search needs
 
 returns-2 : tie.Need-returns-2 Inv-loop μ-loop
-returns-2 c = let r = c .before in let i = r .before .before .before .before in route-wrong (due (r .before .before)) (begun i .pre .2) (i .before .before .before .full .ensures) (i .before .before .minus .ensures) (r .check-route .ensures) (c .if2 .taken)
+returns-2 c = let r = c .before in route-wrong (due (r .before .before)) (r .check-route .ensures) (c .if2 .taken)
 
 single-requires : tie.Need-single-requires Inv-loop μ-loop
 single-requires c κs = search needs
 
-minus-requires-2 : tie.Need-minus-requires-2 Inv-loop μ-loop
-minus-requires-2 c κs = search needs
+minus-requires : tie.Need-minus-requires Inv-loop μ-loop
+minus-requires c κs = search needs
 
 meet-requires : tie.Need-meet-requires Inv-loop μ-loop
 meet-requires c κs = search needs
@@ -129,7 +120,7 @@ loop-again : tie.Need-loop-again Inv-loop μ-loop
 loop-again c = (omega arith, omega arith, route-apart (shares (c .before .before .before)) (c .before .before .meet .ensures) (c .before .if3 .left) (c .union .ensures))
 
 returns-4 : tie.Need-returns-4 Inv-loop μ-loop
-returns-4 c = group-done _ _ _ _ _ _ _ _ _ (omega arith) ∙ c .before .loop .inv .2
+returns-4 c = group-done _ _ _ _ _ _ _ _ (omega arith) ∙ c .before .loop .inv .2
 
 pub check-group-spec : {M : Type 1} → statement M
 check-group-spec =
@@ -137,8 +128,6 @@ check-group-spec =
     (tie.spec
     Inv-loop
     μ-loop
-    full-requires
-    minus-requires
     loop-holds
     is-route-due-requires
     not-due-requires
@@ -150,7 +139,7 @@ check-group-spec =
     check-route-requires
     returns-2
     single-requires
-    minus-requires-2
+    minus-requires
     meet-requires
     returns-3
     union-requires

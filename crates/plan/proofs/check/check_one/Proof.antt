@@ -15,15 +15,13 @@ use Rattle.plan.proofs.check.check_one.Lts as lts
 use Rattle.plan.proofs.check.is_route_due.Reads as is-route-due-reads
 use Rattle.plan.proofs.check.not_due.Reads as not-due-reads
 use Rattle.route.proofs.check_route.Reads as check-route-reads
-use Rattle.sets.proofs.full.Reads as full-reads
-use Rattle.sets.proofs.minus.Reads as minus-reads
 
 -- what `Rest` says is still to test of the route gives the answer
 abbrev Left : tie.Start → Point → Type 0
 Left c Rest =
     let a = c .args in
     let g = groupOf 18 (a .sources) (a .receiver) 1 in
-    Rest (a .n) (linksOf (a .rows .now)) (a .fault) (a .plan .now) g 0 (a .at) (a .before) 0 (checkGroup (a .n) (linksOf (a .rows .now)) (a .fault) (a .plan .now) g 1 (a .at) (a .before) 0)
+    Rest (a .sound) (linksOf (a .rows .now)) (a .plan .now) g 0 (a .at) (a .before) 0 (checkGroup (a .sound) (linksOf (a .rows .now)) (a .plan .now) g 1 (a .at) (a .before) 0)
 
 -- at the start all of the route is to test
 start : (c : tie.Start) → Left c FromCommand
@@ -44,20 +42,14 @@ not-due-requires c κs = search needs
 returns : tie.Need-returns
 returns c = group-other (start (c .before .before .before .before)) (c .before .before .is-route-due .ensures) (c .before .if1 .left) (c .not-due .ensures)
 
-full-requires : tie.Need-full-requires
-full-requires c κs = search needs
-
-minus-requires : tie.Need-minus-requires
-minus-requires c κs = search needs
-
 add-first : tie.Need-add-first
-add-first c = omega (arith, due (c .before .before))
+add-first c = omega (arith, due c)
 
 sub-check-route : tie.Need-sub-check-route
-sub-check-route c = omega (arith, due (c .before .before))
+sub-check-route c = omega (arith, due c)
 
 part-check-route-start : tie.Need-part-check-route-start
-part-check-route-start c = omega (arith, due (c .before .before))
+part-check-route-start c = omega (arith, due c)
 
 part-check-route-end : tie.Need-part-check-route-end
 part-check-route-end c = search needs
@@ -66,16 +58,16 @@ check-route-requires : tie.Need-check-route-requires
 check-route-requires c κs = search needs
 
 returns-2 : tie.Need-returns-2
-returns-2 c = let m = c .before .before .before in route-wrong (due (m .before .before)) (m .before .before .before .before .before .pre .1) (m .before .full .ensures) (m .minus .ensures) (c .before .check-route .ensures) (c .if2 .taken)
+returns-2 c = route-wrong (due (c .before .before .before)) (c .before .check-route .ensures) (c .if2 .taken)
 
 add-next : tie.Need-add-next
-add-next c = omega (arith, due (c .before .before .before .before .before))
+add-next c = omega (arith, due (c .before .before .before))
 
 add-carriages : tie.Need-add-carriages
-add-carriages c = omega (arith, due (c .before .before .before .before .before))
+add-carriages c = omega (arith, due (c .before .before .before))
 
 returns-3 : tie.Need-returns-3
-returns-3 c = let m = c .before .before .before in route-alone (due (m .before .before)) (m .before .before .before .before .before .pre .1) (m .before .full .ensures) (m .minus .ensures) (c .before .check-route .ensures) (c .if2 .left)
+returns-3 c = route-alone (due (c .before .before .before)) (c .before .check-route .ensures) (c .if2 .left)
 
 pub check-one-spec : {M : Type 1} → statement M
 check-one-spec =
@@ -84,8 +76,6 @@ check-one-spec =
     is-route-due-requires
     not-due-requires
     returns
-    full-requires
-    minus-requires
     add-first
     sub-check-route
     part-check-route-start

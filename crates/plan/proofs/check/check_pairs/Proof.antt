@@ -19,11 +19,11 @@ use Rattle.sets.proofs.minus.Reads as minus-reads
 use Rattle.sets.proofs.single.Reads as single-reads
 
 abbrev Inv-loop : tie.InvT-loop
-Inv-loop n rows fault plan start before quorum at₀ carriages₀ left₀ at carriages left =
-    Taking 1 (length plan) (rowStep n (linksOf rows) fault plan (members quorum)) left (checkGroups n (linksOf rows) fault plan (pairs (members quorum) (members quorum)) start before) at carriages
+Inv-loop sound rows plan start before quorum at₀ carriages₀ left₀ at carriages left =
+    Taking 1 (length plan) (rowStep sound (linksOf rows) plan (members quorum)) left (checkGroups sound (linksOf rows) plan (pairs (members quorum) (members quorum)) start before) at carriages
 
 abbrev μ-loop : tie.MeasureT-loop
-μ-loop n rows fault plan start before quorum at₀ carriages₀ left₀ at carriages left =
+μ-loop sound rows plan start before quorum at₀ carriages₀ left₀ at carriages left =
     length (members left)
 
 -- the lowest of the receivers that are left is taken out of them
@@ -31,7 +31,7 @@ first : (c : tie.After-minus Inv-loop μ-loop) → let l = c .before .before .be
 first c = take-lowest (c .before .before .before .before .loop .inv .small) (c .before .before .before .loop-test .taken) (c .before .before .lowest .ensures) (c .before .single .ensures) (c .minus .ensures)
 
 loop-holds : tie.Need-loop-holds Inv-loop μ-loop
-loop-holds c = let s = c .before in taking-starts (search needs) (s .pre .0) (s .pre .1) (rows-bound _ _ _ _ _) (pairs-walk _ _ _ _ _ _ _ _)
+loop-holds c = let s = c .before in taking-starts (search needs) (s .pre .0) (s .pre .1) (rows-bound _ _ _ _) (pairs-walk _ _ _ _ _ _ _)
 
 lowest-requires : tie.Need-lowest-requires Inv-loop μ-loop
 lowest-requires c κs = search needs

@@ -23,11 +23,11 @@ use Rattle.sets.proofs.minus.Reads as minus-reads
 use Rattle.sets.proofs.single.Reads as single-reads
 
 abbrev Inv-loop : tie.InvT-loop
-Inv-loop n rows fault plan start before quorum receiver at₀ carriages₀ left₀ at carriages left =
-    (has left receiver ≡ false) × Taking 1 (length plan) (toOneStep n (linksOf rows) fault plan receiver) left (checkGroups n (linksOf rows) fault plan (toOne receiver (members quorum)) start before) at carriages
+Inv-loop sound rows plan start before quorum receiver at₀ carriages₀ left₀ at carriages left =
+    (has left receiver ≡ false) × Taking 1 (length plan) (toOneStep sound (linksOf rows) plan receiver) left (checkGroups sound (linksOf rows) plan (toOne receiver (members quorum)) start before) at carriages
 
 abbrev μ-loop : tie.MeasureT-loop
-μ-loop n rows fault plan start before quorum receiver at₀ carriages₀ left₀ at carriages left =
+μ-loop sound rows plan start before quorum receiver at₀ carriages₀ left₀ at carriages left =
     length (members left)
 
 -- the lowest of the sources that are left is taken out of them
@@ -36,8 +36,8 @@ first c = take-lowest (c .before .before .before .before .loop .inv .1 .small) (
 
 -- it is not the receiver, so its route is a step
 stepped : (c : tie.After-check-one Inv-loop μ-loop) → let a = c .before .before .before .before .before .before .before .before .before .args in let l = c .before .before .before .before .before .loop in
-    progressOf (c .check-one .result) ≡ toOneStep (a .n) (linksOf (a .rows .now)) (a .fault) (a .plan .now) (a .receiver) (c .before .before .before .lowest .result) (l .at) (l .carriages)
-stepped c = toOne-other _ _ _ _ _ _ _ _ (out-other (first (c .before)) (c .before .before .before .before .before .loop .inv .0)) _ (c .before .before .single2 .ensures) _ (c .check-one .ensures)
+    progressOf (c .check-one .result) ≡ toOneStep (a .sound) (linksOf (a .rows .now)) (a .plan .now) (a .receiver) (c .before .before .before .lowest .result) (l .at) (l .carriages)
+stepped c = toOne-other _ _ _ _ _ _ _ (out-other (first (c .before)) (c .before .before .before .before .before .loop .inv .0)) _ (c .before .before .single2 .ensures) _ (c .check-one .ensures)
 
 single-requires : tie.Need-single-requires Inv-loop μ-loop
 single-requires c κs = search needs
@@ -47,8 +47,8 @@ minus-requires c κs = search needs
 
 loop-holds : tie.Need-loop-holds Inv-loop μ-loop
 loop-holds c = let s = c .before .before .before in
-    let row = row-others _ _ _ _ _ _ _ _ (s .pre .2) (c .before .single .ensures) (c .minus .ensures) _ _ in
-    (out-first _ _ _ _ (s .pre .2) (c .before .single .ensures) (c .minus .ensures), taking-starts (search needs) (s .pre .0) (s .pre .1) (toOne-bound _ _ _ _ _) (toOne-walk _ _ _ _ _ _ _ _ ∙ sym row))
+    let row = row-others _ _ _ _ _ _ _ (s .pre .2) (c .before .single .ensures) (c .minus .ensures) _ _ in
+    (out-first _ _ _ _ (s .pre .2) (c .before .single .ensures) (c .minus .ensures), taking-starts (search needs) (s .pre .0) (s .pre .1) (toOne-bound _ _ _ _) (toOne-walk _ _ _ _ _ _ _ ∙ sym row))
 
 lowest-requires : tie.Need-lowest-requires Inv-loop μ-loop
 lowest-requires c κs = search needs
