@@ -160,7 +160,7 @@ enum {
 
 /*
  * The bytes of stack that a call needs at most. The frames along the calls in the archive add up to
- * 1,664 bytes at the deepest, in agreement_run; no call on the example sites or on damaged versions
+ * 1,632 bytes at the deepest, in agreement_run; no call on the example sites or on damaged versions
  * of them was measured to use more. `sh tools/stack` does both again.
  */
 #define AGREEMENT_STACK 4096

@@ -138,8 +138,8 @@ fn content(network: &Network, names: &Names, mark: Option<Mark>, load: Option<Lo
         offices: (0..).zip(clean).map(office).collect(),
         legend: legend::of_links(&links)
             .into_iter()
-            .chain(why)
             .chain(relays)
+            .chain(why)
             .collect(),
         links,
     }
