@@ -1,7 +1,7 @@
 -- `route::check_route` meets its contract. The invariant of its loop, `Walking`: the walk from here on gives the answer of the whole. The measure is
 -- how many of the eight bytes are left. Assumes nothing.
 use mathlib.Core.Path.{refl}
-use Prim.Native.Nat.{_-_, _≤_}
+use Prim.Native.Nat.{_-_, _≤_, _<_}
 use native.Mathlib.Omega.{arith}
 use lib.ListN.{length}
 use borrow.Author.Needs.{needs}
@@ -54,7 +54,11 @@ lacking-requires : tie.Need-lacking-requires Inv-loop μ-loop
 lacking-requires c κs = search needs
 
 loop-holds : tie.Need-loop-holds Inv-loop μ-loop
-loop-holds c = search (needs, walk-starts)
+loop-holds c =
+    let m = c .before .before .before .before in
+    let s = m .before .before .before .before .before in
+    let small : s .args .sound < 256 = search needs in
+    walk-starts _ _ _ _ _ small (m .before .before .before .if1 .left) (m .before .meet .ensures) (m .member .ensures) (c .before .before .before .if2 .taken) (c .before .before .single .ensures) (c .before .minus .ensures) (c .lacking .ensures)
 
 shared-slice-read-server : tie.Need-shared-slice-read-server Inv-loop μ-loop
 shared-slice-read-server c = search needs

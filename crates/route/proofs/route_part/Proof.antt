@@ -1,4 +1,5 @@
 -- `route::route_part` meets its contract. By the set it is known whether the bytes are a route (`Walks`). Assumes nothing.
+use Prim.Native.Nat.{_<_}
 use borrow.Author.Needs.{needs}
 use Rattle.route.proofs.Walks.{part-short, part-empty, part-path}
 use Rattle.route.proofs.route_part.Statement.{statement}
@@ -33,7 +34,11 @@ part-result-end-2 : tie.Need-part-result-end-2
 part-result-end-2 c = search needs
 
 returns-2 : tie.Need-returns-2
-returns-2 c = search (needs, part-empty)
+returns-2 c =
+    let r = c .before .before in
+    let s = r .before .before .before in
+    let small : s .args .sound < 256 = search needs in
+    part-empty _ _ _ _ small _ (r .before .if1 .left) (r .check-route .ensures) (c .before .if2 .taken)
 
 path-length-requires : tie.Need-path-length-requires
 path-length-requires c κs = search needs
@@ -48,7 +53,11 @@ part-result-end-3 : tie.Need-part-result-end-3
 part-result-end-3 c = search needs
 
 returns-3 : tie.Need-returns-3
-returns-3 c = search (needs, part-path)
+returns-3 c =
+    let r = c .before .before .before in
+    let s = r .before .before .before in
+    let small : s .args .sound < 256 = search needs in
+    part-path _ _ _ _ small _ (r .before .if1 .left) (r .check-route .ensures) (c .before .before .if2 .left) _ (c .before .path-length .ensures .0) (c .before .path-length .ensures .1)
 
 pub route-part-spec : {M : Type 1} → statement M
 route-part-spec =
