@@ -35,7 +35,7 @@ ghost use Rattle.agreement.specs.Version.{version};
 pub extern "C" fn agreement_version() -> u64
     ensures { λ r. ⌜ r ≡ version ⌝ }
 {
-    6_000
+    7_000
 }
 
 // 2, what is at fault, the refusal's number, its place.

@@ -1,21 +1,22 @@
--- Arrived bytes beyond those due have no effect: what a server receives is read from the first so many bytes.
+-- Arrived bytes beyond those due have no effect: what a server receives is read from the first so many bytes, each as the run reads it.
 --     received-many   how many are received
---     message-taken   a byte among the first k is the same in any list that begins alike
---     received-taken  so is what is received from them
+--     received-alike  arrivals that the run reads alike, as far as they are due, are received alike
+--     commit-alike    so the commit gives the same for them, whatever its answer
+--     beyond-due      the statement
 -- Assumes nothing.
-use mathlib.Core.Path.{_≡_, refl, sym, ap, _∙_}
+use mathlib.Core.Path.{_≡_, refl, ap}
 use mathlib.Core.List.{List, [], _∷_}
 use Prim.Native.Nat.{ℕ, suc, _+_, _≤_, _<_}
 use native.Mathlib.Omega.{arith}
 use lib.Dec.{eqb}
-use lib.ListN.{length, getD, take}
-use lib.Seq.{getD-take}
+use lib.ListN.{length, take}
 use Rattle.facts.proofs.Bools.{cases}
 use Rattle.network.specs.Links.{Links}
 use Rattle.network.specs.Card.{network, readCard}
 use Rattle.plan.specs.Check.{Totals, totals, turned, checkPlan}
 use Rattle.rules.specs.Blocks.{Carriage}
 use Rattle.steps.specs.Hearing.{message}
+use Rattle.steps.proofs.Unheard.{message-same}
 use Rattle.part.specs.Own.{received, carriagesOf, committed}
 use Rattle.part.specs.State.{State}
 use Rattle.part.specs.Calls.{siteOn, siteOf, blockOf, commitOn, commitCall}
@@ -28,33 +29,29 @@ received-many a b j k i [] = refl
 received-many a b j k i (c ∷ cs) =
     cases (eqb (c .receiver) i) (λ e. rw e (ap suc (received-many a b (suc j) (suc k) i cs))) (λ e. rw e (received-many a b j k i cs))
 
-module _ (k : ℕ) (a b : List ℕ) (same : take k a ≡ take k b) where
-  message-taken : (j : ℕ) → j < k → message a j ≡ message b j
-  unfolding message
-  message-taken j h =
-      let e : getD a j 2 ≡ getD b j 2 = sym (getD-take k a j 2 h) ∙ ap (λ (l : List ℕ). getD l j 2) same ∙ getD-take k b j 2 h in
-      rw e refl
-
-  received-taken : (j i : ℕ) (cs : List Carriage) → j + length (received [] 0 i cs) ≤ k → received a j i cs ≡ received b j i cs
+module _ (k : ℕ) (a b : List ℕ) (alike : (j : ℕ) → j < k → message a j ≡ message b j) where
+  received-alike : (j i : ℕ) (cs : List Carriage) → j + length (received [] 0 i cs) ≤ k → received a j i cs ≡ received b j i cs
   unfolding received
-  received-taken j i [] h = refl
-  received-taken j i (c ∷ cs) h =
+  received-alike j i [] h = refl
+  received-alike j i (c ∷ cs) h =
       cases (eqb (c .receiver) i)
       (λ e. let n = rw e at h in
-      let here = message-taken j (omega arith) in
-      let later = received-taken (suc j) i cs (let z = received-many [] [] 1 0 i cs in omega arith) in
+      let here = alike j (omega arith) in
+      let later = received-alike (suc j) i cs (let z = received-many [] [] 1 0 i cs in omega arith) in
       rw (e, here, later) refl)
-      (λ e. let n = rw e at h in rw e (received-taken j i cs n))
+      (λ e. let n = rw e at h in rw e (received-alike j i cs n))
 
-module _ (plan : List ℕ) (n f : ℕ) (links : Links) (i : ℕ) (s : State) (a b : List ℕ) (same : take (dueTo n f plan i s) a ≡ take (dueTo n f plan i s) b) where
-  commit-taken : (checked : Totals) → commitOn (siteOn (network n f links) checked) plan i s a ≡ commitOn (siteOn (network n f links) checked) plan i s b
+module _ (plan : List ℕ) (n f : ℕ) (links : Links) (i : ℕ) (s : State) (a b : List ℕ)
+    (alike : (j : ℕ) → j < dueTo n f plan i s → message a j ≡ message b j) where
+  pub commit-alike : (checked : Totals) → commitOn (siteOn (network n f links) checked) plan i s a ≡ commitOn (siteOn (network n f links) checked) plan i s b
   unfolding commitOn committed
-  commit-taken (turned r) = refl
-  commit-taken (totals blocks carriages) =
+  commit-alike (turned r) = refl
+  commit-alike (totals blocks carriages) =
       let cs = carriagesOf (s .kind) (blockOf n f plan (s .block)) in
-      let e = received-taken (dueTo n f plan i s) a b same 0 i cs (omega arith) in
+      let e = received-alike (dueTo n f plan i s) a b alike 0 i cs (omega arith) in
       rw e refl
 
 pub beyond-due : BeyondDue
 unfolding commitCall siteOf
-beyond-due card plan n f links e i s a b same = rw e (commit-taken plan n f links i s a b same (checkPlan card plan))
+beyond-due card plan n f links e i s a b same =
+    rw e (commit-alike plan n f links i s a b (message-same (dueTo n f plan i s) a b same) (checkPlan card plan))

@@ -18,7 +18,7 @@ use borrow.Author.Tests.{eq-eqb, ltb-false}
 use Rattle.facts.specs.Lists.{Each}
 use Rattle.facts.proofs.Bools.{cases, by-cond}
 use Rattle.rules.specs.Blocks.{Carriage}
-use Rattle.steps.specs.Hearing.{hit, message, brought, heard}
+use Rattle.steps.specs.Hearing.{hit, silence, message, brought, heard}
 use Rattle.part.specs.Own.{source, given, received}
 use Rattle.part.specs.Beside.{used, delivered}
 
@@ -59,7 +59,7 @@ as-it-is x h = cases (ltb x 2) (λ e. rw e refl) (λ e. let l = ltb-false x 2 e 
 
 -- the first byte of what arrives, as the server reads it
 message-given : (X : ℕ) (table : List ℕ) (k : ℕ) (x : ℕ → ℕ) (c : Carriage) (y : ℕ) (rest : List ℕ) → x (source c) < 3 → y ≡ x (source c)
-    → message (cond (hit X (c .before)) (getD table k 2) y ∷ rest) 0 ≡ brought X table k x c
+    → message (cond (hit X (c .before)) (getD table k silence) y ∷ rest) 0 ≡ brought X table k x c
 unfolding message brought
 message-given X table k x c y rest small e =
     let is = as-it-is (x (source c)) small in
@@ -87,5 +87,5 @@ module _ (n X : ℕ) (table : List ℕ) (x : ℕ → ℕ) (small : (j : ℕ) →
       let y = getD (gave (source c)) 0 2 in
       let own : y ≡ x (source c) = ap (λ (row : List ℕ). getD row 0 2) (e (source c) l) ∙ given-first (x (source c)) c cs in
       let first = message-given X table k x c y later (small (source c) l) own in
-      let rest = received-cons (cond (hit X (c .before)) (getD table k 2) y) later 0 r cs ∙ ih in
+      let rest = received-cons (cond (hit X (c .before)) (getD table k silence) y) later 0 r cs ∙ ih in
       cases (eqb (c .receiver) r) (λ q. rw q (ap₂ (λ (z : ℕ) (zs : List ℕ). z ∷ zs) first rest)) (λ q. rw q ih)

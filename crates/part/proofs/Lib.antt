@@ -7,6 +7,7 @@
 -- Followed   servers stepped side by side follow the run
 -- Shown      what the servers show at the end
 -- Beyond     arrived bytes beyond those due have no effect
+-- Silent     a missing arrival does what the byte 0 does
 -- Short      a buffer of 56 bytes is enough for every ask
 -- Main       what a user of the definitions relies on
 pub mod Turned
@@ -18,5 +19,6 @@ pub mod Turns
 pub mod Followed
 pub mod Shown
 pub mod Beyond
+pub mod Silent
 pub mod Short
 pub mod Main

@@ -5,12 +5,14 @@
 --     shows-the-run   for a sound server that is its byte in the lent buffer of the run
 --     demand          demand 3, for what the servers show
 --     beyond-due      arrived bytes beyond those due have no effect
+--     silence-means-open  a missing arrival does what the byte 0 does
 --     asks-short      a buffer of 56 bytes is enough for every ask
 -- Assumes nothing.
-use Rattle.part.specs.Theorems.{Turned, StepByStep, Decides, ShowsTheRun, Demand3, BeyondDue, AsksShort}
+use Rattle.part.specs.Theorems.{Turned, StepByStep, Decides, ShowsTheRun, Demand3, BeyondDue, SilenceMeansOpen, AsksShort}
 use Rattle.part.proofs.Turned
 use Rattle.part.proofs.Followed
 use Rattle.part.proofs.Beyond
+use Rattle.part.proofs.Silent
 use Rattle.part.proofs.Short
 use Rattle.part.proofs.Shown
 
@@ -31,6 +33,9 @@ demand = Shown.demand
 
 pub beyond-due : BeyondDue
 beyond-due = Beyond.beyond-due
+
+pub silence-means-open : SilenceMeansOpen
+silence-means-open = Silent.silence-means-open
 
 pub asks-short : AsksShort
 asks-short = Short.asks-short

@@ -14,7 +14,7 @@ use lib.Dec.{eqb}
 use lib.ListN.{length, getD, drop, replicate}
 use Rattle.sets.specs.Sets.{meet, minus, full}
 use Rattle.rules.specs.Blocks.{Block, Carriage, decodePlan}
-use Rattle.steps.specs.Hearing.{hit}
+use Rattle.steps.specs.Hearing.{hit, silence}
 use Rattle.steps.specs.Steps.{Values, step1, gather, compare, step5, step6}
 use Rattle.part.specs.Own.{source, carriagesOf}
 use Rattle.part.specs.State.{State, first}
@@ -46,7 +46,7 @@ unfoldable pub delivered : ℕ → List ℕ → ℕ → (ℕ → List ℕ) → L
 delivered X table k gave [] r = []
 delivered X table k gave (c ∷ cs) r =
     let later = delivered X table (suc k) (used (source c) gave) cs r in
-    cond (eqb (c .receiver) r) (cond (hit X (c .before)) (getD table k 2) (getD (gave (source c)) 0 2) ∷ later) later
+    cond (eqb (c .receiver) r) (cond (hit X (c .before)) (getD table k silence) (getD (gave (source c)) 0 2) ∷ later) later
 
 abbrev pub States : Type 0
 States = ℕ → State

@@ -6,10 +6,11 @@
 --                 for a sound server that is its byte in the lent buffer of the run
 --     Demand3     so what the sound servers show is one bit, and some sound server's input
 --     BeyondDue   arrived bytes beyond those due have no effect
+--     SilenceMeansOpen  a missing arrival does what the byte 0 does
 --     AsksShort   an ask into a buffer of 56 bytes or more is never refused for the buffer
 use mathlib.Core.Path.{_≡_}
 use mathlib.Core.Bool.{true}
-use mathlib.Core.List.{List, [], _∷_}
+use mathlib.Core.List.{List, [], _∷_, _++_}
 use Prim.Native.Nat.{ℕ, _≤_, _<_}
 use lib.ListN.{length, getD, take, drop, replicate}
 use Rattle.sets.specs.Sets.{Out, has}
@@ -105,3 +106,9 @@ BeyondDue =
     (card plan : List ℕ) (n f : ℕ) (links : Links) → readCard card ≡ network n f links
     → (i : ℕ) (s : State) (arrived arrived′ : List ℕ) → take (dueTo n f plan i s) arrived ≡ take (dueTo n f plan i s) arrived′
     → commitCall card plan i s arrived ≡ commitCall card plan i s arrived′
+
+-- whatever the call's answer: arrivals and the same with any number of zeros after them leave the same state
+abbrev pub SilenceMeansOpen : Type 0
+SilenceMeansOpen =
+    (card plan : List ℕ) (i : ℕ) (s : State) (arrived : List ℕ) (m : ℕ)
+    → commitCall card plan i s (arrived ++ replicate m 0) ≡ commitCall card plan i s arrived

@@ -7,6 +7,7 @@
 -- Eight        the values of the servers as a list of eight
 -- Decides      demands 2 and 3 on the definitions
 -- Unheard      bytes of the message table past the last carriage have no effect
+-- Silent       a missing byte of the message table does what the byte 0 does
 -- Kept         what a call leaves of the lent buffer as it was
 -- Main         what a user of the run relies on
 pub mod Ways
@@ -18,5 +19,6 @@ pub mod Someone
 pub mod Eight
 pub mod Decides
 pub mod Unheard
+pub mod Silent
 pub mod Kept
 pub mod Main

@@ -38,7 +38,7 @@ use Rattle.rules.specs.Rules.{sourcesFor, pairsOf, endsOf, Mesh, InBlock}
 use Rattle.rules.proofs.Lists.{members-in, in-members}
 use Rattle.rules.proofs.Groups.{each-cons, each-append}
 use Rattle.rules.proofs.Fans.{Different, members-different}
-use Rattle.steps.specs.Hearing.{hit, message, brought, heard, all, common}
+use Rattle.steps.specs.Hearing.{hit, silence, message, brought, heard, all, common}
 use Rattle.steps.specs.Steps.{held, gather, compare, step1, step5, step6, Values, runBlock}
 use Rattle.bc.specs.Algorithm.{Path, onWay, some, arrives, allAre, agreed, allBelow, equality, propagate, adopt, stepJ, within, case1, case2, bcBlock}
 use Rattle.bc.specs.Allowed.{Separate, Sound}
@@ -95,7 +95,7 @@ common-agreed (x ∷ xs) h s = common-cons x xs (s x (List·Memᴰ·head refl))
 pub message-small : (table : List ℕ) (k : ℕ) → message table k < 3
 unfolding message
 message-small table k =
-    by-cond (λ (x : ℕ). x < 3) (ltb (getD table k 2) 2) _ _ (λ e. let z = ltb-true (getD table k 2) 2 e in omega arith) (λ e. omega arith)
+    by-cond (λ (x : ℕ). x < 3) (ltb (getD table k silence) 2) _ _ (λ e. let z = ltb-true (getD table k silence) 2 e in omega arith) (λ e. omega arith)
 
 pub arrives-small : (X : Set) (t : ℕ → ℕ) (p : Path) → p .spoiled < 3 → t (p .source) < 3 → arrives X t p < 3
 unfolding arrives

@@ -3,6 +3,7 @@
 --     heard-same       so what is heard by carriages with such numbers; gather-same, compare-same, told-same: so what a step gives
 --     carriages-long   how many carriages a block has, kind by kind
 --     block-alike      so what a block gives; blocks-alike: so what the blocks of a list give
+--     written-alike    so what a call that is answered writes; after-alike: so the lent buffer, whatever the answer
 --     unheard          the statement
 -- Assumes nothing.
 use mathlib.Core.Path.{_≡_, refl, sym, ap, _∙_}
@@ -19,20 +20,20 @@ use Rattle.network.specs.Card.{Network, network, refused, readCard}
 use Rattle.plan.specs.Check.{Totals, totals, turned}
 use Rattle.rules.specs.Blocks.{Carriage, Block, carriageOf, reportCarriages, carriagesOf, planCarriages, decodePlan}
 use Rattle.rules.proofs.Main.{totalled}
-use Rattle.steps.specs.Hearing.{hit, message, brought, heard, all, common}
+use Rattle.steps.specs.Hearing.{hit, silence, message, brought, heard, all, common}
 use Rattle.steps.specs.Steps.{held, gather, compare, step1, step5, step6, Values, values, runBlock, runBlocks}
 use Rattle.steps.specs.Run.{runPlan, decided, written, afterAnswer, lentAfter}
-use Rattle.steps.specs.Demand.{Unheard}
+use Rattle.steps.specs.Demand.{carriagesIn, Unheard}
 use Rattle.steps.proofs.Eight.{values-ext}
 use Rattle.steps.proofs.Decides.{called}
 
 -- getD of a part
-part-at : (c : ℕ) (s s′ : List ℕ) → take c s ≡ take c s′ → (k : ℕ) → k < c → getD s k 2 ≡ getD s′ k 2
-part-at c s s′ e k h = sym (getD-take c s k 2 h) ∙ ap (λ (l : List ℕ). getD l k 2) e ∙ getD-take c s′ k 2 h
+part-at : (c d : ℕ) (s s′ : List ℕ) → take c s ≡ take c s′ → (k : ℕ) → k < c → getD s k d ≡ getD s′ k d
+part-at c d s s′ e k h = sym (getD-take c s k d h) ∙ ap (λ (l : List ℕ). getD l k d) e ∙ getD-take c s′ k d h
 
 pub message-same : (c : ℕ) (table table′ : List ℕ) → take c table ≡ take c table′ → (k : ℕ) → k < c → message table k ≡ message table′ k
 unfolding message
-message-same c table table′ e k h = ap (λ (b : ℕ). cond (ltb b 2) b 2) (part-at c table table′ e k h)
+message-same c table table′ e k h = ap (λ (b : ℕ). cond (ltb b 2) b 2) (part-at c silence table table′ e k h)
 
 -- how many carriages a block has, kind by kind
 carriages-long : (b : Block)
@@ -110,25 +111,31 @@ module _ (X c : ℕ) (table table′ : List ℕ) (alike : (k : ℕ) → k < c �
       ∙ ap (runBlocks n X table′ next bs) (block-alike n k b s (omega arith))
 
 -- the network and the answer, as the call has them
-written-same : (card plan inputs : List ℕ) (X : ℕ) (table table′ lent : List ℕ) (w : Network) → readCard card ≡ w
+written-alike : (card plan inputs : List ℕ) (X : ℕ) (table table′ lent : List ℕ) (w : Network) → readCard card ≡ w
     → (blocks carriages : ℕ) → runPlan card plan inputs X lent ≡ totals blocks carriages
-    → take carriages table ≡ take carriages table′ → written w plan inputs X table lent ≡ written w plan inputs X table′ lent
+    → ((k : ℕ) → k < carriages → message table k ≡ message table′ k) → written w plan inputs X table lent ≡ written w plan inputs X table′ lent
 unfolding written
-written-same card plan inputs X table table′ lent (refused r) e blocks carriages q same = refl
-written-same card plan inputs X table table′ lent (network n f links) e blocks carriages q same =
+written-alike card plan inputs X table table′ lent (refused r) e blocks carriages q alike = refl
+written-alike card plan inputs X table table′ lent (network n f links) e blocks carriages q alike =
     let checked = called card plan inputs X lent n f links e blocks carriages q .checked in
     let all = totalled card plan n f links e blocks carriages checked .1 in
     let start : Values = record { v = values (held inputs); t = replicate 8 2 } in
     ap (λ (s : Values). decided n X (s .v) ++ drop n lent)
-    (blocks-alike X carriages table table′ (message-same carriages table table′ same) n (decodePlan n f plan) 0 start (omega arith))
+    (blocks-alike X carriages table table′ alike n (decodePlan n f plan) 0 start (omega arith))
 
-answer-same : (answer : Totals) (new new′ lent : List ℕ) → ((blocks carriages : ℕ) → answer ≡ totals blocks carriages → new ≡ new′)
+answer-alike : (answer : Totals) (new new′ lent : List ℕ) → ((blocks carriages : ℕ) → answer ≡ totals blocks carriages → new ≡ new′)
     → afterAnswer answer new lent ≡ afterAnswer answer new′ lent
-answer-same (totals blocks carriages) new new′ lent h = h blocks carriages refl
-answer-same (turned r) new new′ lent h = refl
+answer-alike (totals blocks carriages) new new′ lent h = h blocks carriages refl
+answer-alike (turned r) new new′ lent h = refl
+
+pub after-alike : (card plan inputs : List ℕ) (X : ℕ) (table table′ lent : List ℕ)
+    → ((k : ℕ) → k < carriagesIn (runPlan card plan inputs X lent) → message table k ≡ message table′ k)
+    → lentAfter card plan inputs X table lent ≡ lentAfter card plan inputs X table′ lent
+unfolding lentAfter
+after-alike card plan inputs X table table′ lent alike =
+    answer-alike (runPlan card plan inputs X lent) _ _ lent
+    (λ blocks carriages q. written-alike card plan inputs X table table′ lent (readCard card) refl blocks carriages q (rw q at alike))
 
 pub unheard : Unheard
-unfolding lentAfter
 unheard card plan inputs X table table′ lent same =
-    answer-same (runPlan card plan inputs X lent) _ _ lent
-    (λ blocks carriages q. written-same card plan inputs X table table′ lent (readCard card) refl blocks carriages q (rw q at same))
+    after-alike card plan inputs X table table′ lent (message-same (carriagesIn (runPlan card plan inputs X lent)) table table′ same)

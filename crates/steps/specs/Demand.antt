@@ -4,11 +4,12 @@
 --     DecidesAsBc   the byte of every sound server is what Algorithm BC with the plan's choices leaves it with
 --     Demand3       there are a bit b and a sound server with input b, and the byte of every sound server is b
 --     Unheard       bytes of the message table past the last carriage have no effect
+--     SilenceMeansOpen  a missing byte of the message table does what the byte 0 does
 --     Unchanged     a refused call changes no byte of the lent buffer; Untouched: no call changes one past the first n
 use mathlib.Core.Path.{_≡_}
 use mathlib.Core.List.{List, _++_}
 use Prim.Native.Nat.{ℕ, _≤_, _<_}
-use lib.ListN.{getD, take, drop}
+use lib.ListN.{getD, take, drop, replicate}
 use Rattle.facts.specs.Lists.{Each}
 use Rattle.sets.specs.Sets.{Set, Edges, Out, has, count}
 use Rattle.refusal.specs.Refused.{Refused}
@@ -83,6 +84,12 @@ Unheard =
     (card plan inputs : List ℕ) (X : ℕ) (table table′ lent : List ℕ)
     → take (carriagesIn (runPlan card plan inputs X lent)) table ≡ take (carriagesIn (runPlan card plan inputs X lent)) table′
     → lentAfter card plan inputs X table lent ≡ lentAfter card plan inputs X table′ lent
+
+-- whatever the call's answer: a table and the same with any number of zeros after it leave the same bytes
+abbrev pub SilenceMeansOpen : Type 0
+SilenceMeansOpen =
+    (card plan inputs : List ℕ) (X : ℕ) (table lent : List ℕ) (m : ℕ)
+    → lentAfter card plan inputs X (table ++ replicate m 0) lent ≡ lentAfter card plan inputs X table lent
 
 -- a refused call changes no byte of the lent buffer
 abbrev pub Unchanged : Type 0

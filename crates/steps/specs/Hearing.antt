@@ -1,4 +1,6 @@
 -- What a carriage brings to its receiver, and what a receiver hears. X is the faulty set handed to the call, `table` the message table.
+--     silence        == what a missing byte is read as
+--     message ..     == the byte of a number, as it is read
 --     brought ..     == the table's byte of the carriage's number if a server other than the receiver is faulty, else what the source holds
 --     heard ..       == what the carriages whose receiver is r bring, in plan order; the first of the list has number k
 --     common l       == the value that all of l are, 2 if they are not alike or there is none
@@ -15,9 +17,13 @@ unfoldable pub hit : ℕ → List ℕ → Bool
 hit X [] = false
 hit X (s ∷ ss) = has X s || hit X ss
 
--- 0 and 1 as they are, any other value and a missing byte as 2
+-- no word from an office means that the recap is open
+abbrev pub silence : ℕ
+silence = 0
+
+-- 0 and 1 as they are, any other value as 2
 unfoldable pub message : List ℕ → ℕ → ℕ
-message table k = let b = getD table k 2 in cond (ltb b 2) b 2
+message table k = let b = getD table k silence in cond (ltb b 2) b 2
 
 unfoldable pub brought : ℕ → List ℕ → ℕ → (ℕ → ℕ) → Carriage → ℕ
 brought X table k held c = cond (hit X (c .before)) (message table k) (held (getD (c .before) 0 0))

@@ -282,8 +282,12 @@ table =
     ∷ row "a card's refusal comes before the plan's" (loads [] P6-plan) (0 ∷ 0 ∷ 2 ∷ 0 ∷ [])
     ∷ row "P7: both decide 1" (runs P1-card P5-plan (1 ∷ 0 ∷ []) 0 [] (9 ∷ 9 ∷ [])) (1 ∷ 1 ∷ 1 ∷ 1 ∷ 1 ∷ [])
     ∷ row "later bytes of the lent buffer are untouched" (runs P1-card P5-plan (0 ∷ 1 ∷ []) 0 [] (9 ∷ 9 ∷ 9 ∷ [])) (1 ∷ 1 ∷ 1 ∷ 0 ∷ 0 ∷ 9 ∷ [])
-    ∷ row "P8: at f 1 the arrivals 0 and missing, of faulty server 1, come to 2"
-    (gathers 2 (0 ∷ []) two-carriages 4 (0 ∷ 0 ∷ 0 ∷ 2 ∷ 2 ∷ 2 ∷ 2 ∷ 2 ∷ [])) (0 ∷ 0 ∷ 2 ∷ 2 ∷ 2 ∷ 2 ∷ 2 ∷ 2 ∷ [])
+    ∷ row "P8: at f 1 the arrivals 0 and missing, of faulty server 1, come to 0"
+    (gathers 2 (0 ∷ []) two-carriages 4 (0 ∷ 1 ∷ 1 ∷ 2 ∷ 2 ∷ 2 ∷ 2 ∷ 2 ∷ [])) (0 ∷ 1 ∷ 0 ∷ 2 ∷ 2 ∷ 2 ∷ 2 ∷ 2 ∷ [])
+    ∷ row "the arrivals 1 and missing come to 2"
+    (gathers 2 (1 ∷ []) two-carriages 4 (1 ∷ 1 ∷ 1 ∷ 2 ∷ 2 ∷ 2 ∷ 2 ∷ 2 ∷ [])) (1 ∷ 1 ∷ 2 ∷ 2 ∷ 2 ∷ 2 ∷ 2 ∷ 2 ∷ [])
+    ∷ row "the arrivals 0 and 255 come to 2: a byte that is no bit is not silence"
+    (gathers 2 (0 ∷ 255 ∷ []) two-carriages 4 (0 ∷ 0 ∷ 0 ∷ 2 ∷ 2 ∷ 2 ∷ 2 ∷ 2 ∷ [])) (0 ∷ 0 ∷ 2 ∷ 2 ∷ 2 ∷ 2 ∷ 2 ∷ 2 ∷ [])
     ∷ row "P9: at f 1 the arrivals 1 and 1 come to 1"
     (gathers 0 [] two-carriages 4 (1 ∷ 1 ∷ 2 ∷ 2 ∷ 2 ∷ 2 ∷ 2 ∷ 2 ∷ [])) (1 ∷ 1 ∷ 1 ∷ 2 ∷ 2 ∷ 2 ∷ 2 ∷ 2 ∷ [])
     ∷ row "P10: with an S of one server step 3 keeps t"
@@ -291,6 +295,8 @@ table =
     ∷ row "a plan of f 1 is accepted: 19 blocks, 118 carriages" (checks P4-card P4-plan) (1 ∷ 19 ∷ 118 ∷ [])
     ∷ row "with inputs 1 0 0 1 and server 2 faulty the others decide 1"
     (runs P4-card P4-plan (1 ∷ 0 ∷ 0 ∷ 1 ∷ []) 4 P4-table (9 ∷ 9 ∷ 9 ∷ 9 ∷ 9 ∷ [])) (1 ∷ 19 ∷ 118 ∷ 1 ∷ 1 ∷ 2 ∷ 1 ∷ 9 ∷ [])
+    ∷ row "with server 2 silent and the same inputs the others decide 1"
+    (runs P4-card P4-plan (1 ∷ 0 ∷ 0 ∷ 1 ∷ []) 4 [] (9 ∷ 9 ∷ 9 ∷ 9 ∷ 9 ∷ [])) (1 ∷ 19 ∷ 118 ∷ 1 ∷ 1 ∷ 2 ∷ 1 ∷ 9 ∷ [])
     ∷ row "too few inputs are 12 before 13 and 14, and change no byte" (runs P1-card P5-plan (1 ∷ []) 1 [] (9 ∷ [])) (0 ∷ 2 ∷ 12 ∷ 9 ∷ [])
     ∷ row "an input of 2 is 12" (runs P1-card P5-plan (1 ∷ 2 ∷ []) 0 [] (9 ∷ 9 ∷ [])) (0 ∷ 2 ∷ 12 ∷ 9 ∷ 9 ∷ [])
     ∷ row "a faulty set over f is 13 before 14" (runs P1-card P5-plan (1 ∷ 0 ∷ []) 1 [] (9 ∷ [])) (0 ∷ 2 ∷ 13 ∷ 9 ∷ [])
@@ -306,7 +312,8 @@ table =
     (asks P1-card P5-plan 0 (at 0 0x13 0 1 0) (9 ∷ 9 ∷ [])) (1 ∷ 0 ∷ 0x13 ∷ 0 ∷ 1 ∷ 1 ∷ 1 ∷ 9 ∷ [])
     ∷ row "the commit of 13 ends with step 5" (commits P1-card P5-plan 1 (at 0 0x13 0 2 1) (1 ∷ [])) (1 ∷ 0 ∷ 0x14 ∷ 1 ∷ 1 ∷ 0 ∷ [])
     ∷ row "an arrival beyond those due has no effect" (commits P1-card P5-plan 1 (at 0 0x13 0 2 1) (1 ∷ 0 ∷ [])) (1 ∷ 0 ∷ 0x14 ∷ 1 ∷ 1 ∷ 0 ∷ [])
-    ∷ row "a missing arrival is unsure, and v stays" (commits P1-card P5-plan 1 (at 0 0x13 0 1 1) []) (1 ∷ 0 ∷ 0x14 ∷ 0 ∷ 2 ∷ 0 ∷ [])
+    ∷ row "a missing arrival is 0, and v becomes 0" (commits P1-card P5-plan 1 (at 0 0x13 1 1 1) []) (1 ∷ 0 ∷ 0x14 ∷ 0 ∷ 0 ∷ 0 ∷ [])
+    ∷ row "an arrival of 255 is unsure, and v stays" (commits P1-card P5-plan 1 (at 0 0x13 1 1 1) (255 ∷ [])) (1 ∷ 0 ∷ 0x14 ∷ 1 ∷ 2 ∷ 0 ∷ [])
     ∷ row "after 14 of the last block comes the end" (commits P1-card P5-plan 1 (at 0 0x14 1 1 1) []) (1 ∷ 1 ∷ 0x15 ∷ 1 ∷ 1 ∷ 0 ∷ [])
     ∷ row "at the end the ask gives the decided bit and opens nothing"
     (asks P1-card P5-plan 1 (at 1 0x15 1 0 0) (9 ∷ [])) (1 ∷ 1 ∷ 0x15 ∷ 1 ∷ 0 ∷ 0 ∷ 1 ∷ [])

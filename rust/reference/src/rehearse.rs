@@ -92,6 +92,26 @@ mod tests {
     }
 
     #[test]
+    fn silence_decides_otherwise_than_255() {
+        // Worked out in the run's test of that name.
+        let card = complete_card(4, 1);
+        let plan = direct_plan(4, 1, Quorum::InsideA);
+        let decided = |table: &[u8]| -> Vec<String> {
+            let run_in = [&[0b1000, 1, 1, 0, 1], table].concat();
+            let text = rehearse(Some(&card), Some(&plan), Some(&run_in));
+            text.lines().skip(1).map(str::to_string).collect()
+        };
+        let lines = |bit: u8| {
+            let sound = (0..3).map(|server| format!("server {server} decided {bit}"));
+            let faulty = "server 3 decided faulty".to_string();
+            sound.chain([faulty]).collect::<Vec<_>>()
+        };
+        assert_eq!(decided(&[]), lines(0));
+        assert_eq!(decided(&[0; 1_000]), lines(0));
+        assert_eq!(decided(&[255; 1_000]), lines(1));
+    }
+
+    #[test]
     fn refusals_print_one_line() {
         assert_eq!(rehearse(None, None, None), "refused card 2 0\n");
         assert_eq!(

@@ -5,9 +5,11 @@ use crate::plan::{check_plan_for, route_servers, Totals, BLOCK_SIZE, NEIGHBOURS_
 use crate::refusal::{ground, Refusal};
 use crate::sets::{contains, is_within, members};
 
-/// The working value of a server that is unsure, and what a message that is
-/// missing or no bit counts as.
+/// The working value of a server that is unsure, and what a message that is no bit
+/// counts as.
 pub(crate) const UNSURE: u8 = 2;
+/// What a missing message counts as: no word from a server means open.
+const SILENCE: u8 = 0;
 /// What the lent buffer holds for a faulty server.
 const FAULTY_MARK: u8 = 2;
 
@@ -20,8 +22,8 @@ type Values = [u8; MAX_SERVERS];
 ///
 /// `inputs` holds each server's input bit, `faulty` is the set of faulty servers,
 /// and `table` says for each carriage what arrives if a faulty server had it in
-/// hand. A refused call changes no byte of `out`, and bytes of `out` past the last
-/// server are never touched.
+/// hand, 0 where it has no byte. A refused call changes no byte of `out`, and bytes
+/// of `out` past the last server are never touched.
 pub fn run(
     card: &[u8],
     plan: &[u8],
@@ -97,7 +99,11 @@ pub(crate) fn check_call(
 
 /// What a byte that arrived is read as, `None` standing for one that is missing.
 pub(crate) fn message(byte: Option<u8>) -> u8 {
-    byte.filter(|&byte| byte <= 1).unwrap_or(UNSURE)
+    match byte {
+        Some(bit @ 0..=1) => bit,
+        Some(_) => UNSURE,
+        None => SILENCE,
+    }
 }
 
 /// The value that all arrivals have in common, else unsure.
@@ -251,6 +257,8 @@ mod tests {
     use super::*;
     use crate::sample::{card, complete_card, direct_plan, Quorum, P1_CARD, P5_PLAN};
 
+    const QUORUMS: [Quorum; 3] = [Quorum::InsideA, Quorum::All, Quorum::AllButOneOfA];
+
     /// A run in the middle of nowhere, to try single steps on; its plan is `plan`.
     fn stepping<'a>(f: u8, plan: &'a [u8], faulty: u8, table: &'a [u8]) -> Run<'a> {
         let network = read_card(&complete_card(4, f)).unwrap();
@@ -279,14 +287,45 @@ mod tests {
     }
 
     #[test]
-    fn p8_arrivals_0_and_missing_are_2() {
+    fn p8_arrivals_0_and_missing_are_0() {
+        // The second source has 1, but it is faulty and the table is silent on it.
         let plan = [route(&[1, 0]), route(&[2, 0])].concat();
-        let mut run = stepping(1, &plan, 0b0100, &[]);
-        run.t = [1, 0, 0, 2, 2, 2, 2, 2];
-        run.propagate(0b0001);
-        assert_eq!(run.t[0], 2);
-        assert_eq!(run.carriage, 2);
-        assert_eq!(common_value([0, 2].into_iter()), 2);
+        let common = |table: &[u8]| {
+            let mut run = stepping(1, &plan, 0b0100, table);
+            run.t = [1, 0, 1, 2, 2, 2, 2, 2];
+            run.propagate(0b0001);
+            assert_eq!(run.carriage, 2);
+            run.t[0]
+        };
+        assert_eq!(common(&[]), 0);
+        assert_eq!(common(&[7]), 0, "its table byte is number 1");
+        assert_eq!(common(&[7, 2]), 2, "2 is not missing");
+        assert_eq!(common(&[7, 255]), 2, "255 is not missing");
+    }
+
+    #[test]
+    fn silence_is_open_and_no_bit_is_unsure() {
+        assert_eq!(message(None), 0);
+        assert_eq!(message(Some(0)), 0);
+        assert_eq!(message(Some(1)), 1);
+        for byte in 2..=u8::MAX {
+            assert_eq!(message(Some(byte)), 2);
+        }
+    }
+
+    #[test]
+    fn a_missing_byte_is_0_whatever_the_source_has() {
+        for sent in 0..=2 {
+            let plan = route(&[0, 1, 2]);
+            let arrival = |faulty: u8| {
+                let mut run = stepping(1, &plan, faulty, &[]);
+                (run.arrival_by_route([sent; 8]), run.carriage)
+            };
+            assert_eq!(arrival(0b0001), (0, 1), "source");
+            assert_eq!(arrival(0b0010), (0, 1), "relay");
+            assert_eq!(arrival(0b0100), (sent, 1), "receiver");
+            assert_eq!(arrival(0b1000), (sent, 1), "not on the route");
+        }
     }
 
     #[test]
@@ -312,7 +351,8 @@ mod tests {
 
     #[test]
     fn arrivals_must_all_be_alike() {
-        let cases: [(&[u8], u8); 8] = [
+        let cases: [(&[u8], u8); 9] = [
+            (&[], 2),
             (&[0], 0),
             (&[1, 1, 1], 1),
             (&[1, 1, 0], 2),
@@ -360,7 +400,6 @@ mod tests {
         assert_eq!(arrival(&[0, 1, 2], 0b0010, &[1]), (1, 1), "relay");
         assert_eq!(arrival(&[0, 1, 2], 0b0001, &[1]), (1, 1), "source");
         assert_eq!(arrival(&[0, 1, 2], 0b0001, &[0]), (0, 1));
-        assert_eq!(arrival(&[0, 1, 2], 0b0001, &[]), (2, 1), "missing");
         for byte in 2..=u8::MAX {
             assert_eq!(arrival(&[0, 1, 2], 0b0001, &[byte]), (2, 1));
         }
@@ -390,7 +429,16 @@ mod tests {
             "its table byte is number 1"
         );
         assert_eq!(inform(v(1, 1, 0), 0b0010, &[1, 2]), 0, "unsure: unchanged");
-        assert_eq!(inform(v(1, 1, 0), 0b0010, &[1]), 0, "missing: unchanged");
+        for own in 0..=1 {
+            let after = inform(v(1, 1, own), 0b0010, &[1]);
+            assert_eq!(after, own, "1 and missing: unchanged");
+        }
+        assert_eq!(inform(v(0, 1, 1), 0b0010, &[1]), 0, "0 and missing: 0");
+        assert_eq!(
+            inform(v(0, 1, 1), 0b0010, &[1, 255]),
+            1,
+            "unsure: unchanged"
+        );
     }
 
     #[test]
@@ -498,10 +546,12 @@ mod tests {
     #[test]
     fn four_servers_agree_whatever_one_of_them_does() {
         let card = complete_card(4, 1);
-        let tables: [&[u8]; 6] = [
+        let tables: [&[u8]; 8] = [
             &[],
             &[0; 1_000],
             &[1; 1_000],
+            &[255; 1_000],
+            &[1; 40],
             &[0, 1].repeat(500),
             &[0, 1, 2].repeat(300),
             &[1, 1, 0, 0, 2].repeat(200),
@@ -534,6 +584,93 @@ mod tests {
         run(&card, &plan, &[0, 1, 0, 1], 2, &exact, &mut one).unwrap();
         run(&card, &plan, &[0, 1, 0, 1], 2, &long, &mut other).unwrap();
         assert_eq!(one, other);
+    }
+
+    /// What two tables give on one site is the same, for every faulty set and each of
+    /// `choices` as inputs, server i having bit i.
+    fn assert_same_runs(
+        (card, plan): (&[u8], &[u8]),
+        choices: impl Iterator<Item = u8> + Clone,
+        [one, other]: [&[u8]; 2],
+    ) {
+        let Network { n, f, .. } = read_card(card).unwrap();
+        let n = usize::from(n);
+        let faulty_sets = (0..1u16 << n).filter(|set| set.count_ones() <= u32::from(f));
+        for faulty in faulty_sets.map(|set| set as u8) {
+            for choice in choices.clone() {
+                let inputs: Vec<u8> = (0..n).map(|server| choice >> server & 1).collect();
+                let all_of = |table: &[u8]| {
+                    let mut out = vec![9; n];
+                    let totals = run(card, plan, &inputs, faulty, table, &mut out).unwrap();
+                    let values = values_by_block(card, plan, &inputs, faulty, table).unwrap();
+                    (totals, out, values)
+                };
+                assert!(all_of(one) == all_of(other), "{inputs:?} {faulty}");
+            }
+        }
+    }
+
+    #[test]
+    fn an_empty_table_is_a_table_of_zeros() {
+        assert_same_runs((&P1_CARD, &P5_PLAN), 0..4, [&[], &[0]]);
+        for quorum in QUORUMS {
+            for (n, f, step) in [(4, 0, 1), (4, 1, 1), (5, 1, 1), (6, 1, 5), (7, 2, 21)] {
+                let (card, plan) = (complete_card(n, f), direct_plan(n, f, quorum));
+                let zeros = vec![0; crate::check_plan(&card, &plan).unwrap().carriages];
+                let choices = (0..1 << n).step_by(step);
+                assert_same_runs((&card, &plan), choices, [&[], &zeros]);
+            }
+        }
+    }
+
+    #[test]
+    fn a_table_cut_short_is_one_with_zeros_after_the_cut() {
+        let card = complete_card(4, 1);
+        for quorum in QUORUMS {
+            let plan = direct_plan(4, 1, quorum);
+            let carriages = crate::check_plan(&card, &plan).unwrap().carriages;
+            let whole = [1, 255, 1, 0, 1].repeat(carriages);
+            for cut in 0..=carriages {
+                let mut filled = whole[..cut].to_vec();
+                filled.resize(carriages, 0);
+                let choices = [0b0000, 0b0011, 0b0110, 0b1101, 0b1111].into_iter();
+                assert_same_runs((&card, &plan), choices, [&whole[..cut], &filled]);
+            }
+        }
+    }
+
+    #[test]
+    fn silence_decides_otherwise_than_255() {
+        // Server 3 is faulty, and S is A in every block. In the first block S is
+        // {1, 2, 3}, where 1 and 2 differ, so that nothing changes. In the second S is
+        // {2, 3}: if 3 is silent, 2 keeps its 0, and 0 and 1 hear 0 from both.
+        //
+        // If 3 sends no bits, a block with 3 in S changes nothing, nor does one in which
+        // 2 is in S with 0 or 1, as these differ. Every block before F = {2} is such a
+        // one. There 0 and 1 are the neighbours, and 2 takes over their 1.
+        let card = complete_card(4, 1);
+        let plan = direct_plan(4, 1, Quorum::InsideA);
+        let inputs = [1, 1, 0, 1];
+        let decided = |table: &[u8]| {
+            let mut out = [9; 4];
+            run(&card, &plan, &inputs, 0b1000, table, &mut out).unwrap();
+            out
+        };
+        assert_eq!(decided(&[]), [0, 0, 0, 2]);
+        assert_eq!(decided(&[0; 1_000]), [0, 0, 0, 2]);
+        assert_eq!(decided(&[255; 1_000]), [1, 1, 1, 2]);
+        assert_eq!(decided(&[2; 1_000]), [1, 1, 1, 2]);
+
+        let sound = |table: &[u8]| -> Vec<[u8; 3]> {
+            let values = values_by_block(&card, &plan, &inputs, 0b1000, table).unwrap();
+            values.iter().map(|v| [v[0], v[1], v[2]]).collect()
+        };
+        let (silent, no_bits) = (sound(&[]), sound(&[255; 1_000]));
+        assert_eq!(silent[0], [1, 1, 0]);
+        assert_eq!(silent[1..], [[0, 0, 0]; 18]);
+        // Seven blocks have F = {}, three each F = {0} and F = {1}.
+        assert_eq!(no_bits[..13], [[1, 1, 0]; 13]);
+        assert_eq!(no_bits[13..], [[1, 1, 1]; 6]);
     }
 
     #[test]

@@ -589,10 +589,12 @@ mod tests {
                 assert_eq!(committed(&site, 0, at, &[0, 1]), (v, 2));
                 assert_eq!(committed(&site, 0, at, &[1, 0]), (v, 2));
                 assert_eq!(committed(&site, 0, at, &[2, 2]), (v, 2));
-                assert_eq!(committed(&site, 0, at, &[0]), (v, 2), "P8");
-                assert_eq!(committed(&site, 0, at, &[1]), (v, 2));
-                assert_eq!(committed(&site, 0, at, &[]), (v, 2));
+                assert_eq!(committed(&site, 0, at, &[0]), (v, 0), "P8");
+                assert_eq!(committed(&site, 0, at, &[1]), (v, 2), "1 and missing");
+                assert_eq!(committed(&site, 0, at, &[]), (v, 0), "both missing");
                 for byte in 2..=u8::MAX {
+                    assert_eq!(committed(&site, 0, at, &[byte]), (v, 2));
+                    assert_eq!(committed(&site, 0, at, &[0, byte]), (v, 2));
                     assert_eq!(committed(&site, 0, at, &[byte, 1]), (v, 2));
                     assert_eq!(committed(&site, 0, at, &[byte, byte]), (v, 2));
                 }
@@ -614,7 +616,11 @@ mod tests {
                         assert_eq!(committed(&site, server, at, &[other, same]), (v, 2));
                         assert_eq!(committed(&site, server, at, &[other; 2]), (v, 2));
                     }
-                    assert_eq!(committed(&site, server, at, &[same]), (v, 2), "missing");
+                    // A missing byte is 0, so only a t of 0 is kept.
+                    let kept = if t == 0 { 0 } else { 2 };
+                    assert_eq!(committed(&site, server, at, &[same]), (v, kept));
+                    assert_eq!(committed(&site, server, at, &[]), (v, kept));
+                    assert_eq!(committed(&site, server, at, &[255]), (v, 2));
                 }
                 assert_eq!(
                     committed(&site, 1, at, &[1 - v as u8; 2]),
@@ -650,7 +656,10 @@ mod tests {
                 assert_eq!(committed(&site, 1, at, &[1, 1]), (1, 1));
                 assert_eq!(committed(&site, 1, at, &[0, 1]), (v, 2));
                 assert_eq!(committed(&site, 1, at, &[2, 2]), (v, 2));
-                assert_eq!(committed(&site, 1, at, &[1]), (v, 2));
+                assert_eq!(committed(&site, 1, at, &[1]), (v, 2), "1 and missing");
+                assert_eq!(committed(&site, 1, at, &[0]), (0, 0), "0 and missing");
+                assert_eq!(committed(&site, 1, at, &[]), (0, 0), "both missing");
+                assert_eq!(committed(&site, 1, at, &[0, 255]), (v, 2));
                 let other = [1 - v as u8; 2];
                 for server in [2, 3] {
                     assert_eq!(committed(&site, server, at, &other), (v, t), "in A and S");
@@ -672,11 +681,30 @@ mod tests {
                 assert_eq!(committed(&site, 0, at, &[1, 1]), (1, t));
                 assert_eq!(committed(&site, 0, at, &[1, 0]), (v, t));
                 assert_eq!(committed(&site, 0, at, &[2, 2]), (v, t));
-                assert_eq!(committed(&site, 0, at, &[1]), (v, t));
-                assert_eq!(committed(&site, 0, at, &[]), (v, t));
+                assert_eq!(committed(&site, 0, at, &[1]), (v, t), "1 and missing");
+                assert_eq!(committed(&site, 0, at, &[0]), (0, t), "0 and missing");
+                assert_eq!(committed(&site, 0, at, &[]), (0, t), "both missing");
+                assert_eq!(committed(&site, 0, at, &[0, 255]), (v, t));
                 let other = [1 - v as u8; 2];
                 for server in [1, 2, 3] {
                     assert_eq!(committed(&site, server, at, &other), (v, t), "not in F");
+                }
+            }
+        }
+    }
+
+    #[test]
+    fn too_few_arrived_bytes_are_as_zeros_in_their_place() {
+        let site = mixed();
+        for block in [0, FIRST_WITH_F] {
+            for (kind, server) in (0x11..=0x14).flat_map(|k| (0..4).map(move |s| (k, s))) {
+                for (v, t) in [(0, 0), (0, 1), (0, 2), (1, 0), (1, 1), (1, 2)] {
+                    let after =
+                        |arrived: &[u8]| committed(&site, server, [block, kind, v, t], arrived);
+                    assert_eq!(after(&[]), after(&[0, 0]));
+                    for byte in [0, 1, 2, 255] {
+                        assert_eq!(after(&[byte]), after(&[byte, 0]));
+                    }
                 }
             }
         }
@@ -866,9 +894,19 @@ mod tests {
         );
         assert_eq!(
             arrived(0b0100, &table[..2]),
-            [vec![2, 30], vec![], vec![10, 31], vec![11, 2]],
-            "missing"
+            [vec![0, 30], vec![], vec![10, 31], vec![11, 0]],
+            "missing, and the 30 behind one keeps its place"
         );
+        assert_eq!(
+            arrived(0b1000, &table[..4]),
+            [vec![20, 43], vec![], vec![10, 0], vec![11, 21]],
+            "number 5 is past the cut, number 3 is not"
+        );
+    }
+
+    #[test]
+    fn what_stands_for_a_missing_byte_is_read_as_one() {
+        assert_eq!(message(Some(message(None))), message(None));
     }
 
     /// Message tables of every sort, most of them shorter than some plan.
@@ -885,6 +923,7 @@ mod tests {
             vec![],
             vec![0; 50_000],
             vec![1; 50_000],
+            vec![0xff; 50_000],
             [0, 1].repeat(100),
             [1, 1, 0, 0, 2].repeat(50),
             scattered(&[0, 1], 50_000),
@@ -963,6 +1002,42 @@ mod tests {
                 assert_as_the_run(&card, &relayed(&card, &plan), choices);
             }
         }
+    }
+
+    #[test]
+    fn a_table_cut_anywhere_ends_as_the_run_and_as_with_zeros_after_the_cut() {
+        let card = complete_card(4, 1);
+        let direct = QUORUMS.map(|quorum| direct_plan(4, 1, quorum));
+        let led_through = direct.each_ref().map(|plan| relayed(&card, plan));
+        for plan in direct.into_iter().chain(led_through).chain([mixed().1]) {
+            let carriages = crate::check_plan(&card, &plan).unwrap().carriages;
+            let whole = [1, 0xff, 1, 0, 1].repeat(carriages);
+            for cut in 0..=carriages {
+                let table = &whole[..cut];
+                let filled = [table, &vec![0; carriages - cut]].concat();
+                for faulty in [0b0001, 0b0010, 0b0100, 0b1000] {
+                    for inputs in [[1, 1, 0, 0], [0, 1, 0, 1], [1; 4]] {
+                        let ends = |table| side_by_side(&card, &plan, &inputs, faulty, table);
+                        let values = values_by_block(&card, &plan, &inputs, faulty, table);
+                        let v = values.unwrap().last().unwrap()[..4].to_vec();
+                        assert_eq!(ends(table), Ok(v), "{cut}");
+                        assert_eq!(ends(table), ends(&filled), "{cut}");
+                    }
+                }
+            }
+        }
+    }
+
+    #[test]
+    fn silence_decides_otherwise_than_255() {
+        // Worked out in the run's test of that name.
+        let (card, plan) = (complete_card(4, 1), direct_plan(4, 1, Quorum::InsideA));
+        let sound = |table: &[u8]| {
+            let ends = side_by_side(&card, &plan, &[1, 1, 0, 1], 0b1000, table).unwrap();
+            ends[..3].to_vec()
+        };
+        assert_eq!(sound(&[]), [0, 0, 0]);
+        assert_eq!(sound(&[0xff; 1_000]), [1, 1, 1]);
     }
 
     #[test]

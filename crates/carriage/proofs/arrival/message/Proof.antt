@@ -13,10 +13,10 @@ shared-slice-read-byte : tie.Need-shared-slice-read-byte
 shared-slice-read-byte c = search needs
 
 returns-2 : tie.Need-returns-2
-returns-2 c = message-bit _ _ (c .before .before .if1 .left) (c .if2 .taken)
+returns-2 c = message-bit _ _ (c .if2 .taken)
 
 returns-3 : tie.Need-returns-3
-returns-3 c = message-other _ _ (c .before .before .if1 .left) (c .if2 .left)
+returns-3 c = message-other _ _ (c .if2 .left)
 
 pub message-spec : {M : Type 1} → statement M
 message-spec = tie.close (tie.spec returns shared-slice-read-byte returns-2 returns-3)
