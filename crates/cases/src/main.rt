@@ -366,11 +366,11 @@ fn answer_all(buf: &mut [u8]) {
 }
 
 // Apart from main, so that no proof writes out all the zeros.
-fn answer_within(buf: &mut [u8; 2097152]) {
+fn answer_within(buf: &mut [u8; 4194304]) {
     answer_all(&mut *buf);
 }
 
 fn main() {
-    let mut buf = [0u8; 2097152];
+    let mut buf = [0u8; 4194304];
     answer_within(&mut buf);
 }

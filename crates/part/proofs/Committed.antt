@@ -93,7 +93,7 @@ unfolding common received
 common-small arrived j i [] = omega arith
 common-small arrived j i (c ∷ cs) =
     by-cond (λ (l : List ℕ). common l < 3) (eqb (c .receiver) i) _ _
-    (λ e. by-cond (λ (x : ℕ). x < 3) (all _ (received arrived (suc j) i cs)) _ _ (λ q. message-small arrived j) (λ q. omega arith))
+    (λ e. by-cond (λ (x : ℕ). x < 3) (all _ (received arrived (suc j) i cs)) _ _ (λ q. message-small _ _) (λ q. omega arith))
     (λ e. common-small arrived j i cs)
 
 -- v at most 1 and t at most 2

@@ -51,7 +51,7 @@ received-cons y arrived j i [] = refl
 received-cons y arrived j i (c ∷ cs) =
     let here = received-cons y arrived (suc j) i cs in
     let past = received-cons y arrived j i cs in
-    cases (eqb (c .receiver) i) (λ e. rw e (ap (λ (l : List ℕ). message arrived j ∷ l) here)) (λ e. rw e past)
+    cases (eqb (c .receiver) i) (λ e. rw (e, here) refl) (λ e. rw e past)
 
 -- 0, 1 and 2 are read as they are
 as-it-is : (x : ℕ) → x < 3 → cond (ltb x 2) x 2 ≡ x
@@ -78,7 +78,7 @@ heard-sources X table k x y (c ∷ cs) r h =
 module _ (n X : ℕ) (table : List ℕ) (x : ℕ → ℕ) (small : (j : ℕ) → j < n → x j < 3) where
   pub delivered-heard : (cs : List Carriage) → Each (λ c. source c < n) cs → (k : ℕ) (gave : ℕ → List ℕ) → ((j : ℕ) → j < n → gave j ≡ given (x j) j cs)
       → (r : ℕ) → received (delivered X table k gave cs r) 0 r cs ≡ heard X table k x cs r
-  unfolding received delivered heard
+  unfolding received delivered heard message
   delivered-heard [] below k gave e r = refl
   delivered-heard (c ∷ cs) below k gave e r =
       let l = below c (List·Memᴰ·head refl) in

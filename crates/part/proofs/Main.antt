@@ -1,5 +1,6 @@
 -- What a user of the definitions relies on, for servers that are stepped side by side.
 --     turned          the turns of a plan, taken in the run's own words, are the run
+--     hears           what a server receives over a turn is what it hears in the run
 --     step-by-step    after every kind of every block the v and t of each server are those of the run
 --     decides         at the end the ask of each server gives the v that the run leaves it with, and opens nothing
 --     shows-the-run   for a sound server that is its byte in the lent buffer of the run
@@ -8,8 +9,9 @@
 --     silence-means-open  a missing arrival does what the byte 0 does
 --     asks-short      a buffer of 56 bytes is enough for every ask
 -- Assumes nothing.
-use Rattle.part.specs.Theorems.{Turned, StepByStep, Decides, ShowsTheRun, Demand3, BeyondDue, SilenceMeansOpen, AsksShort}
+use Rattle.part.specs.Theorems.{Turned, Hears, StepByStep, Decides, ShowsTheRun, Demand3, BeyondDue, SilenceMeansOpen, AsksShort}
 use Rattle.part.proofs.Turned
+use Rattle.part.proofs.Delivered
 use Rattle.part.proofs.Followed
 use Rattle.part.proofs.Beyond
 use Rattle.part.proofs.Silent
@@ -18,6 +20,9 @@ use Rattle.part.proofs.Shown
 
 pub turned : Turned
 turned = Turned.turned
+
+pub hears : Hears
+hears = Delivered.delivered-heard
 
 pub step-by-step : StepByStep
 step-by-step = Followed.step-by-step

@@ -1,6 +1,7 @@
 -- What is proved of servers that are stepped side by side, for every card, every plan accepted for it, inputs of 0 and 1, every faulty set and every
 -- message table, the empty one too.
 --     Turned      the turns of a plan, taken in the run's own words, are the run
+--     Hears       what a server receives over a turn is what it hears in the run, arrival by arrival in plan order
 --     StepByStep  after every kind of every block the v and t of each server are those that the run's steps give, no ask is open, and it is at the next kind
 --     Decides     at the end the ask of each server gives one value, the v that the run leaves it with, as often as it is called, and opens nothing;
 --                 for a sound server that is its byte in the lent buffer of the run
@@ -17,16 +18,18 @@ use Rattle.sets.specs.Sets.{Out, has}
 use Rattle.network.specs.Links.{Links}
 use Rattle.network.specs.Card.{network, readCard}
 use Rattle.plan.specs.Check.{totals}
-use Rattle.rules.specs.Blocks.{Block, decodePlan}
+use Rattle.facts.specs.Lists.{Each}
+use Rattle.rules.specs.Blocks.{Block, Carriage, decodePlan}
 use Rattle.rules.specs.Theorems.{Accepted}
+use Rattle.steps.specs.Hearing.{heard}
 use Rattle.steps.specs.Steps.{Values, held, valuesFrom, values, runBlocks}
 use Rattle.steps.specs.Run.{areBits, runPlan, lentAfter}
 use Rattle.steps.specs.Demand.{Agreed}
 use Rattle.part.specs.State.{State}
 use Rattle.refusal.specs.Refused.{call}
 use Rattle.part.specs.Calls.{Asked, sends, blockOf, askCall, commitCall}
-use Rattle.part.specs.Own.{received, carriagesOf}
-use Rattle.part.specs.Beside.{Turn, turns, besideOver, startBeside, shownBeside, runOver}
+use Rattle.part.specs.Own.{source, given, received, carriagesOf}
+use Rattle.part.specs.Beside.{Turn, turns, delivered, besideOver, startBeside, shownBeside, runOver}
 
 -- the values that a run starts with
 abbrev pub startValues : List ℕ → Values
@@ -36,6 +39,13 @@ abbrev pub Turned : Type 0
 Turned =
     (n X : ℕ) (table : List ℕ) (number : ℕ) (bs : List Block) (s : Values)
     → runOver n X table (turns number bs) s ≡ runBlocks n X table number bs s
+
+-- server j gives x j on each of its carriages; a missing byte of the table has its own place in what a server receives, so that the later ones keep theirs
+abbrev pub Hears : Type 0
+Hears =
+    (n X : ℕ) (table : List ℕ) (x : ℕ → ℕ) → ((j : ℕ) → j < n → x j < 3)
+    → (cs : List Carriage) → Each (λ c. source c < n) cs → (k : ℕ) (gave : ℕ → List ℕ) → ((j : ℕ) → j < n → gave j ≡ given (x j) j cs)
+    → (r : ℕ) → received (delivered X table k gave cs r) 0 r cs ≡ heard X table k x cs r
 
 -- the state is at the turn that comes next, or at the end
 abbrev pub StandsAt : ℕ → ℕ → List ℕ → State → List Turn → Type 0

@@ -95,7 +95,8 @@ common-agreed (x ∷ xs) h s = common-cons x xs (s x (List·Memᴰ·head refl))
 pub message-small : (table : List ℕ) (k : ℕ) → message table k < 3
 unfolding message
 message-small table k =
-    by-cond (λ (x : ℕ). x < 3) (ltb (getD table k silence) 2) _ _ (λ e. let z = ltb-true (getD table k silence) 2 e in omega arith) (λ e. omega arith)
+    let b = getD table k silence in
+    by-cond (λ (x : ℕ). x < 3) (ltb b 2) _ _ (λ e. let z = ltb-true b 2 e in omega arith) (λ e. omega arith)
 
 pub arrives-small : (X : Set) (t : ℕ → ℕ) (p : Path) → p .spoiled < 3 → t (p .source) < 3 → arrives X t p < 3
 unfolding arrives

@@ -295,8 +295,10 @@ table =
     ∷ row "a plan of f 1 is accepted: 19 blocks, 118 carriages" (checks P4-card P4-plan) (1 ∷ 19 ∷ 118 ∷ [])
     ∷ row "with inputs 1 0 0 1 and server 2 faulty the others decide 1"
     (runs P4-card P4-plan (1 ∷ 0 ∷ 0 ∷ 1 ∷ []) 4 P4-table (9 ∷ 9 ∷ 9 ∷ 9 ∷ 9 ∷ [])) (1 ∷ 19 ∷ 118 ∷ 1 ∷ 1 ∷ 2 ∷ 1 ∷ 9 ∷ [])
-    ∷ row "with server 2 silent and the same inputs the others decide 1"
-    (runs P4-card P4-plan (1 ∷ 0 ∷ 0 ∷ 1 ∷ []) 4 [] (9 ∷ 9 ∷ 9 ∷ 9 ∷ 9 ∷ [])) (1 ∷ 19 ∷ 118 ∷ 1 ∷ 1 ∷ 2 ∷ 1 ∷ 9 ∷ [])
+    ∷ row "with inputs 1 1 1 0 and server 2 silent the others decide 0"
+    (runs P4-card P4-plan (1 ∷ 1 ∷ 1 ∷ 0 ∷ []) 4 [] (9 ∷ 9 ∷ 9 ∷ 9 ∷ 9 ∷ [])) (1 ∷ 19 ∷ 118 ∷ 0 ∷ 0 ∷ 2 ∷ 0 ∷ 9 ∷ [])
+    ∷ row "with 255 for each missing byte they decide 1"
+    (runs P4-card P4-plan (1 ∷ 1 ∷ 1 ∷ 0 ∷ []) 4 (replicate 118 255) (9 ∷ 9 ∷ 9 ∷ 9 ∷ 9 ∷ [])) (1 ∷ 19 ∷ 118 ∷ 1 ∷ 1 ∷ 2 ∷ 1 ∷ 9 ∷ [])
     ∷ row "too few inputs are 12 before 13 and 14, and change no byte" (runs P1-card P5-plan (1 ∷ []) 1 [] (9 ∷ [])) (0 ∷ 2 ∷ 12 ∷ 9 ∷ [])
     ∷ row "an input of 2 is 12" (runs P1-card P5-plan (1 ∷ 2 ∷ []) 0 [] (9 ∷ 9 ∷ [])) (0 ∷ 2 ∷ 12 ∷ 9 ∷ 9 ∷ [])
     ∷ row "a faulty set over f is 13 before 14" (runs P1-card P5-plan (1 ∷ 0 ∷ []) 1 [] (9 ∷ [])) (0 ∷ 2 ∷ 13 ∷ 9 ∷ [])
