@@ -9,9 +9,10 @@ use std::io::{self, Write};
 use std::sync::mpsc::Receiver;
 use std::time::{Duration, Instant};
 
-/// What is committed, and handed on, in the place of a value that did not come. The library reads
-/// it as it reads a missing byte, and what arrived has no gaps.
-pub const MISSING: u8 = 2;
+/// What is committed, and handed on, in the place of a value that did not come: open, as the
+/// library reads a missing byte. So an office that falls silent is one that says open. What
+/// arrived is told apart by its place alone, so that a gap has to be filled.
+pub const MISSING: u8 = 0;
 
 pub struct Desk<'a> {
     own: u8,
@@ -252,8 +253,8 @@ mod tests {
             news,
             to_two,
         } = tried(1, &all, LONG);
-        tell(&news, &[News::Down { from: 0 }, came(0, 1), came(2, 0)]);
-        assert_eq!(desk.arrived(2), 0);
+        tell(&news, &[News::Down { from: 0 }, came(0, 1), came(2, 1)]);
+        assert_eq!(desk.arrived(2), 1);
         assert_eq!(sent(&to_two), [(0, MISSING)]);
     }
 
@@ -295,8 +296,26 @@ mod tests {
     fn what_came_in_time_counts_however_late_it_is_looked_at() {
         let all = carriages(&PLAN);
         let Tried { mut desk, news, .. } = tried(2, &all, SHORT);
-        tell(&news, &[came(1, 1), came(0, 0)]);
+        // Neither of them could be taken for a missing one.
+        tell(&news, &[came(1, 1), came(0, 2)]);
         std::thread::sleep(4 * SHORT);
-        assert_eq!([desk.arrived(0), desk.arrived(1)], [0, 1]);
+        assert_eq!([desk.arrived(0), desk.arrived(1)], [2, 1]);
+    }
+
+    #[test]
+    fn what_is_missing_in_the_middle_leaves_the_later_ones_in_their_places() {
+        // Office 2 hears office 0, office 1 and office 3, each over a link of its own.
+        let plan = [
+            0x10, 0, 1, 1, // a block
+            0x13, 0, 2, 255, 255, 255, 255, 255, 255, //
+            0x13, 1, 2, 255, 255, 255, 255, 255, 255, //
+            0x13, 3, 2, 255, 255, 255, 255, 255, 255, //
+            0x15,
+        ];
+        let all = carriages(&plan);
+        let Tried { mut desk, news, .. } = tried(2, &all, LONG);
+        tell(&news, &[came(2, 2), News::Down { from: 1 }, came(0, 1)]);
+        let arrived: Vec<u8> = (0..3).map(|number| desk.arrived(number)).collect();
+        assert_eq!(arrived, [1, MISSING, 2]);
     }
 }

@@ -230,6 +230,28 @@ fn silent_offices_are_missed_in_time() {
     assert!(begun.elapsed() >= Duration::from_secs(10));
 }
 
+/// Silence counts as open, whether the office is there or not. At this site the others would
+/// decide otherwise if it counted as unsure. Those who wait for it in vain do so to the end of
+/// nine slots.
+#[test]
+fn silent_offices_say_open() {
+    let site = Site::example("silent");
+    let expected = site.run(&[]);
+    let stored = example("silent").join("expected/rehearse.txt");
+    let rehearsed = fs::read_to_string(stored).expect("the example is there");
+    assert_eq!(expected, rehearsed);
+    let totals = agreement::check_plan(&site.card, &site.plan).expect("a sound plan");
+    let unsure = vec![2; totals.carriages];
+    assert_ne!(site.run(&unsure), expected);
+    for options in [
+        &["--absent", PATIENT[0], PATIENT[1]][..],
+        &["--wait", "2000"],
+    ] {
+        let printed = offices(&example("silent"), options);
+        assert_eq!(printed, (expected.clone(), DECIDED));
+    }
+}
+
 #[test]
 fn what_cannot_run_is_refused() {
     let site = Site::example("dry-bulk");

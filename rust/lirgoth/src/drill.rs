@@ -114,7 +114,10 @@ impl Drilled {
                 verb("turns", "turn"),
                 verb("it sends", "they send")
             ),
-            Lies::Silent => format!("{who} {} nothing", verb("sends", "send")),
+            Lies::Silent => format!(
+                "{who} {} nothing, which counts as open",
+                verb("sends", "send")
+            ),
             Lies::Random(seed) => {
                 format!(
                     "{who} {} anything, drawn with seed {seed}",

@@ -99,7 +99,7 @@ Runs SITE's plan without a run.in and says what each office shows.
                                    and open to the others, and turns round what it relays;
                                    this is what they do without --lies
                       turned       each turns round all that it sends
-                      silent       nothing that they send arrives
+                      silent       nothing that they send arrives, which counts as open
                       random:SEED  anything arrives, the same for the same number SEED
   --write           stores the run as SITE/run.in, in place of one that is there
   --every           tries every set of at most f failing offices with each kind of lie,

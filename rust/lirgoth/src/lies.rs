@@ -16,7 +16,7 @@ pub enum Lies {
     Split,
     /// Each turns round what it says and what it relays.
     Turned,
-    /// Nothing that they have in hand arrives.
+    /// Nothing that they have in hand arrives, and the library reads that as open.
     Silent,
     /// Anything arrives, the same for the same seed.
     Random(u64),
@@ -59,7 +59,7 @@ const UNSURE: u8 = 2;
 const UNUSED: u8 = 0;
 
 /// The message table with which `faulty` lie in a run over `blocks`. Nothing arrives
-/// from the silent, so their table is empty.
+/// from the silent, so their table is empty: each byte that it lacks is read as open.
 pub fn table(blocks: &[Block], inputs: &[u8], faulty: ServerSet, lies: Lies) -> Vec<u8> {
     if lies == Lies::Silent {
         return Vec::new();
@@ -162,7 +162,7 @@ impl Player {
             }
             Lies::Split | Lies::Turned => turned(sent),
             Lies::Random(_) => self.draw(),
-            Lies::Silent => UNSURE,
+            Lies::Silent => OPEN,
         }
     }
 

@@ -324,6 +324,7 @@ fn the_example_sites_in_words() {
         ("patched", ANSWERED),
         ("ship", ANSWERED),
         ("shore", ANSWERED),
+        ("silent", ANSWERED),
         ("small", ANSWERED),
         ("tanker", REFUSED),
         ("two-regions", REFUSED),
@@ -702,6 +703,47 @@ fn the_drill_with_split_lies_is_the_run_of_dry_bulk() {
     ]
     .map(|path| fs::read(path).expect("it is there"));
     assert_eq!(stored, given);
+}
+
+#[test]
+fn the_drill_of_a_silent_office_is_the_run_of_silent() {
+    let folder = copy_of("silent");
+    let own = folder.0.display().to_string();
+    let drill = [
+        "drill",
+        &own,
+        "--faulty=3",
+        "--inputs=11010",
+        "--lies=silent",
+        "--write",
+    ];
+    let all_show = |bit: &str| {
+        format!(
+            "office 0 entered closed and shows {bit}\n\
+             office 1 entered closed and shows {bit}\n\
+             office 2 entered open and shows {bit}\n\
+             office 3 fails\n\
+             office 4 entered open and shows {bit}\n"
+        )
+    };
+    let printed = out(&drill, ANSWERED);
+    let expected = "office 3 sends nothing, which counts as open\n".to_string();
+    assert!(
+        printed.starts_with(&(expected + &all_show("open"))),
+        "{printed}"
+    );
+    let [stored, given] = [
+        folder.path("run.in"),
+        Path::new(&example("silent")).join("run.in"),
+    ]
+    .map(|path| fs::read(path).expect("it is there"));
+    assert_eq!(stored, given);
+    assert_eq!(stored, [8, 1, 1, 0, 1, 0]);
+    // Where silence counts as unsure all show closed: this is a run in which it matters.
+    let unsure = [&stored[..], &[2; 464]].concat();
+    fs::write(folder.path("run.in"), unsure).expect("it can be written");
+    let explained = out(&["explain", &own], ANSWERED);
+    assert!(explained.ends_with(&all_show("closed")), "{explained}");
 }
 
 #[test]
