@@ -517,10 +517,12 @@ static void own_part(struct list card, struct list plan)
     commit("the end", card, plan, end, LIST(1), out_of_turn);
     asked("the source of the only route", card, plan,
           (struct own){0, {0, AGREEMENT_FROM_QUORUM, 1, 0, 0}}, LIST(0));
-    /* A missing arrival and one that is no bit leave it unsure. */
+    /* A missing arrival is open, one that is no bit leaves it unsure. */
+    const uint64_t open[6] = {AGREEMENT_ANSWERED, 0, AGREEMENT_REPORTS, 0, 0, 0};
     const uint64_t unsure[6] = {AGREEMENT_ANSWERED, 0, AGREEMENT_REPORTS, 0, 2, 0};
-    commit("nothing that arrived", card, plan, waiting[2], zeros_of(0), unsure);
+    commit("nothing that arrived", card, plan, waiting[2], zeros_of(0), open);
     commit("an arrival that is no bit", card, plan, waiting[2], LIST(2), unsure);
+    commit("the last byte that is no bit", card, plan, waiting[2], LIST(255), unsure);
 }
 
 /* One word after the other that a state cannot have. */

@@ -160,8 +160,9 @@ pub fn ask(
 /// answers with its state at the next kind, the next block or the end.
 ///
 /// Byte i of `arrived` came by carriage i, from 0, of those whose receiver is this server, in
-/// plan order. 0 and 1 are taken as they are, any other byte and a missing one as unsure;
-/// bytes beyond those due have no effect.
+/// plan order. 0 and 1 are taken as they are, any other byte as unsure and a missing one as
+/// 0, so that 0 stands for one that did not come while a later one did; bytes beyond those due
+/// have no effect.
 ///
 /// Card and plan are refused first, then the server and its state, and last a commit with no
 /// ask open, as at the end.

@@ -4,6 +4,7 @@
 //! is built, in a folder of its own for each triple of files.
 
 use crate::planned;
+use crate::text::{cases, unhex};
 use generate::{card, damaged_plan, faulty, inputs, plan_like_bytes, table, with_twins, Rng};
 use reference::rehearse;
 use std::fs;
@@ -75,17 +76,44 @@ impl Printed {
 
 /// Runs the program on `count` random triples of files.
 pub fn random_files(seed: u64, count: usize) -> Printed {
-    let program = program();
-    let folder = std::env::temp_dir().join(format!("rehearse-{}-{seed}", std::process::id()));
-    fs::create_dir_all(&folder).expect("a temporary folder can be made");
     let mut rng = Rng::new(seed);
+    let files = (0..count).map(|_| draw(&mut rng));
+    on_each(&format!("random-{seed}"), files.map(|files| (files, None)))
+}
+
+/// The sites with what the program should print for them, which neither implementation made.
+const SITES: &str = include_str!("../data/sites.tsv");
+
+/// Runs the program on every given site.
+pub fn given_files() -> Printed {
+    on_each(
+        "given",
+        cases(SITES).map(|fields| {
+            let [_, card, plan, run_in, text] = fields[..] else {
+                panic!("a case has five fields: {fields:?}");
+            };
+            let file = |field: &str| (field != "-").then(|| unhex(field));
+            let lines = text.split('/').map(|line| format!("{line}\n"));
+            ([card, plan, run_in].map(file), Some(lines.collect()))
+        }),
+    )
+}
+
+/// Runs the program on each triple of files: it prints what the reference prints, and what is
+/// stated, where something is.
+fn on_each(name: &str, triples: impl Iterator<Item = (Files, Option<String>)>) -> Printed {
+    let program = program();
+    let folder = std::env::temp_dir().join(format!("rehearse-{}-{name}", std::process::id()));
+    fs::create_dir_all(&folder).expect("a temporary folder can be made");
     let mut tally = Printed::default();
-    for _ in 0..count {
-        let files = draw(&mut rng);
+    for (files, stated) in triples {
         let [card, plan, run_in] = &files;
         let expected = rehearse(card.as_deref(), plan.as_deref(), run_in.as_deref());
         let text = printed(&program, &folder, &files);
         assert_eq!(text, expected, "on {card:02x?}, {plan:02x?}, {run_in:02x?}");
+        if let Some(stated) = stated {
+            assert_eq!(text, stated, "on {card:02x?}, {plan:02x?}, {run_in:02x?}");
+        }
         tally.count(&text);
     }
     fs::remove_dir_all(&folder).expect("the folder can be removed");

@@ -15,6 +15,8 @@
 //!   ([`every_input`]), tables of every length and byte ([`every_table`]), bytes past
 //!   the first 65,536 of a table ([`late_tables`]), wrong inputs, faulty sets and
 //!   buffers of many lengths in all combinations ([`wrong_calls`]).
+//! - Tables that end anywhere, beside those with zeros, and with bytes that are no bits, after
+//!   that ([`silent_servers`]).
 //! - Cards that give links again, beside those that give each once ([`twin_cables`]).
 //! - Refused cards and plans with calls that are right or wrong ([`refused_plans`]).
 //! - A search for a table that splits the sound servers ([`search`]).
@@ -22,6 +24,7 @@
 mod adversary;
 mod given;
 mod loops;
+mod silent;
 mod tally;
 
 pub use adversary::{search, Effort, Search};
@@ -30,6 +33,7 @@ pub use loops::{
     every_faulty_set, every_input, every_table, late_tables, random_calls, refused_plans,
     twin_cables, wrong_calls,
 };
+pub use silent::{silent_servers, Silent};
 pub use tally::Tally;
 
 pub(crate) use given::RUNS;

@@ -70,6 +70,28 @@ fn random_calls_for_two_faults() {
 }
 
 #[test]
+fn servers_that_fall_silent() {
+    let mut runs = 0;
+    let mut otherwise = 0;
+    for (n, f, seeds, times) in [
+        (4, 1, 200, 40),
+        (5, 1, 100, 40),
+        (6, 1, 10, 40),
+        (7, 2, 2, 40),
+    ] {
+        let silent = runs::silent_servers(n, f, 0..seeds, times);
+        println!("silent servers, n {n} f {f}: {}", silent.tally);
+        // All calls are right, and each is made three times.
+        assert_eq!(silent.tally.all_answered(), silent.tally.runs());
+        assert_eq!(silent.tally.runs(), 3 * seeds as usize * times);
+        runs += seeds as usize * times;
+        otherwise += silent.otherwise;
+    }
+    println!("silent servers: {runs} runs, {otherwise} otherwise with bytes that are no bits");
+    assert!(otherwise >= runs / 50);
+}
+
+#[test]
 fn calls_with_twin_cables() {
     let mut tally = Tally::default();
     for (n, f, seeds, times) in [

@@ -26,9 +26,9 @@ fn asks_are_answered_as_stated() {
 fn commits_are_answered_as_stated() {
     let tally = servers::given_commits();
     println!("given commits: {tally}");
-    assert_eq!((tally.calls(), tally.answered()), (128, 20));
+    assert_eq!((tally.calls(), tally.answered()), (181, 29));
     assert_eq!(
         [13, 16].map(|number| tally.commit_refused[number]),
-        [48, 51]
+        [68, 72]
     );
 }

@@ -100,12 +100,12 @@ pub fn aimed_table(rng: &mut Rng, aim: usize, carriages: &[Carriage], inputs: &[
         4 => is_in(one, carriage.receiver) ^ (carriage.block % 2) as u8,
         // One bit in each block, so that whole blocks pull in one direction.
         5 => (carriage.block % 2) as u8,
-        // Silence for some servers, a lie for the others.
+        // No bit for some servers, a lie for the others.
         6 if is_in(one, carriage.receiver) == 1 => 2,
         6 => 1 - input(carriage.source),
         // Whoever the route comes from decides what is said, and to whom it is said.
         7 => is_in(one, carriage.receiver) ^ is_in(other, carriage.source),
-        // Silence, which keeps different values apart for long, and bits from some block on.
+        // No bits, which keeps different values apart for long, and bits from some block on.
         _ if carriage.block < turn => 2,
         _ => rng.below(2) as u8,
     });

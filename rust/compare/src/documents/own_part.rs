@@ -85,6 +85,24 @@ static WALK: LazyLock<Walk> = LazyLock::new(|| {
 });
 
 /// The kinds of carriages, in the order in which a server takes them.
+/// The one byte that a commit takes as it takes a missing one. Server 1 has one arrival due at
+/// the start, by which it takes t.
+static SILENCE: LazyLock<u8> = LazyLock::new(|| {
+    let (card, plan) = &*TWO;
+    let state = State {
+        open: 1,
+        ..WALK.start
+    };
+    let taken = |arrived: &[u8]| commit(card, plan, SERVERS[1], state, arrived);
+    let missing = taken(&[]);
+    let is_missing = |byte: &u8| taken(&[*byte]) == missing;
+    let alike: Vec<u8> = (0..=u8::MAX).filter(is_missing).collect();
+    match alike[..] {
+        [silence] => silence,
+        _ => panic!("{alike:?} do what a missing byte does, {missing:?}"),
+    }
+});
+
 fn kinds() -> Vec<u8> {
     WALK.taken.iter().map(|taken| taken.kind).collect()
 }
@@ -229,7 +247,9 @@ fn in_header(documents: &Documents) -> Held {
     let [k11, k12, k13, k14] = &kinds[..] else {
         return Err(format!("there are the kinds {kinds:?}"));
     };
+    let silence = *SILENCE;
     page.says_all(&[
+        format!("a value that does not come counts as {silence}, open."),
         format!("to start: the server's own input above {most_input}"),
         format!("or with v above {most_v}, t above {most_t} or open above {most_open}"),
         format!("in each block for the kinds {} of carriages in turn", listed(&kinds)),
@@ -265,8 +285,8 @@ fn in_header(documents: &Documents) -> Held {
              values due, or else {out_of_turn} where an ask is open already."
         ),
         "the carriage that is number i, from 0, of the kind's carriages".to_string(),
-        "in plan order: 0 or 1, any other and a missing one counting as unsure,".to_string(),
-        format!("So {UNSURE} stands for one that did not come while a later one did."),
+        format!("in plan order: 0 or 1, any other counting as unsure and a missing one as {silence}, as in"),
+        format!("So {silence} stands for one that did not come while a later one did."),
         format!("answer: {answered}, block, kind, v, t, open: the state after"),
         format!("which are 1 and 2 in the kind {k11}, 3 in {k12}, 4 and 5 in {k13}, 6 in {k14}"),
         format!("at kind {k11} of the next block or at the end"),
@@ -352,7 +372,7 @@ fn in_formats(documents: &Documents) -> Held {
         "Byte i of what arrived, from 0, came by carriage i".to_string(),
         format!(
             "so {} stands for a value that did not come",
-            quoted(&[UNSURE])
+            quoted(&[*SILENCE])
         ),
         format!("In the run the sources of {k11} send t, which step 1 has set to v."),
         format!("with inputs {}. A is {a} and S is {s};", listed(INPUTS)),

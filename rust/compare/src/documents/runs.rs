@@ -39,27 +39,39 @@ fn written(table: &[u8]) -> Vec<[u8; 4]> {
     all
 }
 
-/// The bytes of a message table that do the same as missing ones.
-static AS_MISSING: LazyLock<Span> = LazyLock::new(|| {
+/// The bytes with which a table that has no other does what `table` does.
+fn alike(table: &[u8]) -> Vec<u8> {
+    let expected = written(table);
     // More bytes than the plan has carriages.
-    let of_byte = |byte| written(&[byte; 1_000]);
-    let missing = written(&[]);
-    let is_missing = |byte: &u8| of_byte(*byte) == missing;
-    let alike: Vec<u8> = (0..=u8::MAX).filter(is_missing).collect();
-    assert_ne!(of_byte(0), of_byte(1), "a table of zeros and one of ones");
-    Span::over("a message that is none", &alike)
+    let is_alike = |byte: &u8| written(&[*byte; 1_000]) == expected;
+    (0..=u8::MAX).filter(is_alike).collect()
+}
+
+/// The bytes of a message table that count as unsure.
+static NO_BIT: LazyLock<Span> =
+    LazyLock::new(|| Span::over("a message that is no bit", &alike(&[UNSURE; 1_000])));
+
+/// The one byte of a message table that does the same as a missing one.
+pub static SILENCE: LazyLock<u8> = LazyLock::new(|| {
+    let alike = alike(&[]);
+    match alike[..] {
+        [silence] => silence,
+        _ => panic!("{alike:?} do what a missing byte does"),
+    }
 });
 
 /// The sentences on bytes, bits and values.
 pub fn stated(documents: &Documents) -> Held {
-    let as_they_are = (0..AS_MISSING.least()).map(|byte| quoted(&[byte]));
+    let as_they_are = (0..NO_BIT.least()).map(|byte| quoted(&[byte]));
     let bits = listed(as_they_are);
-    let [first, last] = [AS_MISSING.least(), AS_MISSING.most()].map(|byte| quoted(&[byte]));
+    let [first, last] = [NO_BIT.least(), NO_BIT.most()].map(|byte| quoted(&[byte]));
+    let silence = *SILENCE;
     let [to_s, within_s, from_s, report] =
         [TO_S, WITHIN_S, FROM_S, REPORT].map(|command| quoted(&[command]));
     documents.formats.says_all(&[
         format!("v of each sound server, {FAULTY} for a faulty one."),
-        format!("{bits} as they are, {first} to {last} as {UNSURE}, a missing byte as {UNSURE}."),
+        format!("{bits} as they are, {first} to {last} as {UNSURE}, a missing byte as {silence}."),
+        "a table and the same with zeros after it do the same.".to_string(),
         "Each server keeps a value v, 0 or 1, at first its input,".to_string(),
         format!("and a working value t: 0, 1, or {UNSURE} for unsure."),
         format!("t at first is {UNSURE}, and no step reads"),

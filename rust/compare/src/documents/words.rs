@@ -8,7 +8,7 @@ use super::header::name;
 use super::library::{HEAD, SIZES};
 use super::numbers::word;
 use super::page::{Held, Page};
-use super::runs::FAULTY;
+use super::runs::{FAULTY, SILENCE};
 use super::Documents;
 use agreement::CallGround;
 
@@ -82,6 +82,7 @@ pub fn stated(documents: &Documents) -> Held {
     // A refusal has four words, as that of the plan check.
     let not_of_refusal = word(load - check);
     let zeros = vec!["0"; split - 1].join(", ");
+    let silence = *SILENCE;
     page.says_all(&[
         format!("`answer` points to {check}, {split}, {start}, {ask}, {load} or {reader} words"),
         format!("`state` points to {state} words, which it only reads."),
@@ -112,6 +113,6 @@ pub fn stated(documents: &Documents) -> Held {
         format!("{HEAD:02X} is not first, or not the only one"),
         "call: inputs not n bytes of 0 or 1".to_string(),
         "servers are 0 to n-1,".to_string(),
-        "0 or 1, any other and a missing one counting as unsure.".to_string(),
+        format!("0 or 1, any other counting as unsure and a missing one as {silence}. So silence"),
     ])
 }

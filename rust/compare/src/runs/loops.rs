@@ -180,10 +180,10 @@ pub fn every_table(n: u8, f: u8, seeds: Range<u64>) -> Tally {
 const FAR: usize = 1 << 16;
 
 /// A long plan for eight servers and two faults, the last two of them faulty, and tables
-/// that are silent at first and speak only past their first 65,536 bytes.
+/// that are no bits at first and speak only past their first 65,536 bytes.
 ///
 /// These bytes matter: in this plan every S is as large as can be and every N has the
-/// last servers in it, so that silence leaves all values as they are.
+/// last servers in it, so that arrivals that are no bits leave all values as they are.
 pub fn late_tables(times: usize) -> Tally {
     let mut tally = Tally::default();
     let planned = long_plan();
@@ -192,8 +192,8 @@ pub fn late_tables(times: usize) -> Tally {
         let mut rng = Rng::new(seed);
         let inputs = any_bits(&mut rng, 8);
         let (mut table, kind) = planned.any_table(&mut rng, &inputs);
-        let silent = table.len().min(FAR);
-        table[..silent].fill(2);
+        let unsure = table.len().min(FAR);
+        table[..unsure].fill(2);
         let made_by = format_args!("late_tables, seed {seed}, {kind} table");
         tally.compare(&planned.call(&inputs, last_two, &table), made_by);
     }

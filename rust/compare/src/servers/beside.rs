@@ -270,13 +270,17 @@ impl Run<'_> {
 /// What the reference makes of a call to run, the lent buffer aside.
 type OfReference<T> = fn(&[u8], &[u8], &[u8], u8, &[u8]) -> Result<T, Refusal>;
 
-/// What is handed to a commit for what arrived. Missing bytes at the end are left out, and
-/// elsewhere one stands for them that counts as unsure; where none is missing, bytes that
-/// have no effect may follow.
+/// What is handed to a commit for what arrived. Missing bytes at the end are mostly left out,
+/// and elsewhere 0 stands for them, or the later ones would move up; where all have a byte,
+/// bytes that have no effect may follow.
 fn arrived(rng: &mut Rng, row: &[Option<u8>]) -> Vec<u8> {
     let last = row.iter().rposition(Option::is_some);
-    let length = last.map_or(0, |last| last + 1);
-    let mut bytes: Vec<u8> = row[..length].iter().map(|byte| byte.unwrap_or(2)).collect();
+    let told = last.map_or(0, |last| last + 1);
+    let length = match rng.below(4) {
+        0 => told + rng.below(row.len() - told + 1),
+        _ => told,
+    };
+    let mut bytes: Vec<u8> = row[..length].iter().map(|byte| byte.unwrap_or(0)).collect();
     if length == row.len() && rng.below(4) == 0 {
         bytes.extend((0..rng.below(4)).map(|_| rng.below(256) as u8));
     }
