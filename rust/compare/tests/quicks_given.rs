@@ -25,5 +25,5 @@ fn given_cards_are_answered_as_by_the_split_test() {
     // Plans and runs are given for networks without a bad split alone.
     assert_eq!([cards.yes(), cards.no()], [126, 110]);
     assert_eq!([plans.yes(), plans.no()], [106, 0]);
-    assert_eq!([runs.yes(), runs.no()], [139, 0]);
+    assert_eq!([runs.yes(), runs.no()], [214, 0]);
 }
