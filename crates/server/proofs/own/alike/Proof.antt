@@ -23,7 +23,9 @@ message-requires c κs = search needs
 
 -- one is not x
 returns : tie.Need-returns Inv-loop μ-loop
-returns c = search alike-other
+returns c =
+    let loop = c .before .before in
+    alike-other _ _ _ _ (loop .before .loop .inv) (loop .loop-test .taken) _ (c .before .message .ensures) (c .if1 .taken)
 
 add-j : tie.Need-add-j Inv-loop μ-loop
 add-j c = search needs
