@@ -269,7 +269,8 @@ void agreement_start(const uint8_t *card, size_t card_length, const uint8_t *pla
  * answer: 0, block, kind, v, t, open, values. The state is as it was, but that `open` is now 1.
  * `values` is the number of the kind's carriages whose source is this server, and may be 0. The
  * first `values` bytes of `lent` are what it sends by each of them, in plan order: v in the kinds
- * 11 and 14, t, which may be 2, in the kinds 12 and 13. Later bytes of `lent` are as they were.
+ * 11 and 14, t, which may be 2, in the kinds 12 and 13. A 2 has to be sent too: one that does not
+ * come counts as 0. Later bytes of `lent` are as they were.
  * At the end the one value is v, the decided bit, as often as it is asked, and `open` stays 0.
  * Or answer: 2, what is at fault, number, place, 0, 0, 0: the refusal of card or plan, 13 for the
  * server or its state, 14 where `lent` is shorter than the values due, or else 16 where an ask is

@@ -211,7 +211,11 @@ pub fn numbers<const N: usize>(grounds: [CallGround; N]) -> [u8; N] {
 
 pub fn stated(documents: &Documents) -> Held {
     in_header(documents)?;
-    in_formats(documents)
+    in_formats(documents)?;
+    let silence = *SILENCE;
+    documents.theorems.says(&format!(
+        "a missing arrival does what the byte {silence} does:"
+    ))
 }
 
 fn in_header(documents: &Documents) -> Held {
@@ -278,6 +282,7 @@ fn in_header(documents: &Documents) -> Held {
             sent("v"),
             sent("t")
         ),
+        format!("A {UNSURE} has to be sent too: one that does not come counts as {silence}."),
         format!("as often as it is asked, and `open` stays {}.", first.open),
         format!(
             "Or answer: {refused}, what is at fault, number, place, 0, 0, 0: the refusal of card or \
@@ -368,6 +373,10 @@ fn in_formats(documents: &Documents) -> Held {
         format!(
             "the state to start in: block {}, kind {k11}, v the input, t {}, no ask open.",
             first.block, first.t
+        ),
+        format!(
+            "A {UNSURE} has to be sent like a bit, since a value that does not come counts as {}.",
+            *SILENCE
         ),
         "Byte i of what arrived, from 0, came by carriage i".to_string(),
         format!(

@@ -84,5 +84,11 @@ pub fn stated(documents: &Documents) -> Held {
         "X is 0 or 1, for a faulty server `faulty`".to_string(),
         "inputs not n bytes of 0 or 1".to_string(),
         "or one of them is not `00` or `01`, even that of a faulty server.".to_string(),
+    ])?;
+    let no_bit = NO_BIT.most();
+    documents.theorems.says_all(&[
+        format!("a missing byte of the message table does what the byte {silence} does:"),
+        format!("and with {no_bit} in the place of its silence;"),
+        format!("arrivals that are missing or {no_bit} beside a bit,"),
     ])
 }
