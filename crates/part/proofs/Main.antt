@@ -1,13 +1,13 @@
 -- What a user of the definitions relies on, for servers that are stepped side by side.
---     turned          the turns of a plan, taken in the run's own words, are the run
---     hears           what a server receives over a turn is what it hears in the run
---     step-by-step    after every kind of every block the v and t of each server are those of the run
---     decides         at the end the ask of each server gives the v that the run leaves it with, and opens nothing
---     shows-the-run   for a sound server that is its byte in the lent buffer of the run
---     demand          demand 3, for what the servers show
---     beyond-due      arrived bytes beyond those due have no effect
+--     turned              the turns of a plan, taken in the run's own words, are the run
+--     hears               what a server receives over a turn is what it hears in the run
+--     step-by-step        after every kind of every block the v and t of each server are those of the run
+--     decides             at the end the ask of each server gives the v that the run leaves it with, and opens nothing
+--     shows-the-run       for a sound server that is its byte in the lent buffer of the run
+--     demand              demand 3, for what the servers show
+--     beyond-due          arrived bytes beyond those due have no effect
 --     silence-means-open  a missing arrival does what the byte 0 does
---     asks-short      a buffer of 56 bytes is enough for every ask
+--     asks-short          a buffer of 56 bytes is enough for every ask
 -- Assumes nothing.
 use Rattle.part.specs.Theorems.{Turned, Hears, StepByStep, Decides, ShowsTheRun, Demand3, BeyondDue, SilenceMeansOpen, AsksShort}
 use Rattle.part.proofs.Turned

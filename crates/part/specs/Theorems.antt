@@ -1,14 +1,14 @@
 -- What is proved of servers that are stepped side by side, for every card, every plan accepted for it, inputs of 0 and 1, every faulty set and every
 -- message table, the empty one too.
---     Turned      the turns of a plan, taken in the run's own words, are the run
---     Hears       what a server receives over a turn is what it hears in the run, arrival by arrival in plan order
---     StepByStep  after every kind of every block the v and t of each server are those that the run's steps give, no ask is open, and it is at the next kind
---     Decides     at the end the ask of each server gives one value, the v that the run leaves it with, as often as it is called, and opens nothing;
---                 for a sound server that is its byte in the lent buffer of the run
---     Demand3     so what the sound servers show is one bit, and some sound server's input
---     BeyondDue   arrived bytes beyond those due have no effect
+--     Turned            the turns of a plan, taken in the run's own words, are the run
+--     Hears             what a server receives over a turn is what it hears in the run, arrival by arrival in plan order
+--     StepByStep        after every kind of every block the v and t of each server are those that the run's steps give, no ask is open, and it is at the next kind
+--     Decides           at the end the ask of each server gives one value, the v that the run leaves it with, as often as it is called, and opens nothing;
+--                       for a sound server that is its byte in the lent buffer of the run
+--     Demand3           so what the sound servers show is one bit, and some sound server's input
+--     BeyondDue         arrived bytes beyond those due have no effect
 --     SilenceMeansOpen  a missing arrival does what the byte 0 does
---     AsksShort   an ask into a buffer of 56 bytes or more is never refused for the buffer
+--     AsksShort         an ask into a buffer of 56 bytes or more is never refused for the buffer
 use mathlib.Core.Path.{_≡_}
 use mathlib.Core.Bool.{true}
 use mathlib.Core.List.{List, [], _∷_, _++_}

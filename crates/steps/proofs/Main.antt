@@ -1,11 +1,11 @@
 -- What a user of the run relies on. Algorithm BC by itself has its theorems in `bc`.
---     chooses     the choices of an accepted plan are such as Algorithm BC allows, and have every cut
---     decides     every call to run that meets no refusal decides as Algorithm BC with the plan's choices
---     demand      demand 3, for every call to run that meets no refusal
---     unheard     bytes of the message table past the last carriage have no effect, for every call
+--     chooses             the choices of an accepted plan are such as Algorithm BC allows, and have every cut
+--     decides             every call to run that meets no refusal decides as Algorithm BC with the plan's choices
+--     demand              demand 3, for every call to run that meets no refusal
+--     unheard             bytes of the message table past the last carriage have no effect, for every call
 --     silence-means-open  a missing byte of the message table does what the byte 0 does, for every call
---     unchanged   a refused call changes no byte of the lent buffer
---     untouched   no call changes a byte past the first n
+--     unchanged           a refused call changes no byte of the lent buffer
+--     untouched           no call changes a byte past the first n
 -- Assumes nothing.
 use Rattle.network.proofs.Main.{card-proper}
 use Rattle.rules.specs.Blocks.{decodePlan}

@@ -1,7 +1,7 @@
 -- Silence means open: a missing byte of the message table does what the byte 0 does.
---     zero-at            there is nothing but 0 in a list of zeros and past its end; zeros-after: zeros after a list are what is read past its end
---     message-silent     so a table and the same with zeros after it have the same message for each number
---     silence-means-open the statement
+--     zero-at             there is nothing but 0 in a list of zeros and past its end; zeros-after: zeros after a list are what is read past its end
+--     message-silent      so a table and the same with zeros after it have the same message for each number
+--     silence-means-open  the statement
 -- Assumes nothing.
 use mathlib.Core.Path.{_≡_, refl, ap}
 use mathlib.Core.Bool.{cond}

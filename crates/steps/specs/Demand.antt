@@ -1,11 +1,11 @@
 -- What holds of accepted plans and of calls to run. Every card, every plan accepted for it, every input list, every faulty set of at most f servers and
 -- every message table, the empty one too.
---     Chooses       the choices of an accepted plan are such as Algorithm BC allows, and have every cut
---     DecidesAsBc   the byte of every sound server is what Algorithm BC with the plan's choices leaves it with
---     Demand3       there are a bit b and a sound server with input b, and the byte of every sound server is b
---     Unheard       bytes of the message table past the last carriage have no effect
+--     Chooses           the choices of an accepted plan are such as Algorithm BC allows, and have every cut
+--     DecidesAsBc       the byte of every sound server is what Algorithm BC with the plan's choices leaves it with
+--     Demand3           there are a bit b and a sound server with input b, and the byte of every sound server is b
+--     Unheard           bytes of the message table past the last carriage have no effect
 --     SilenceMeansOpen  a missing byte of the message table does what the byte 0 does
---     Unchanged     a refused call changes no byte of the lent buffer; Untouched: no call changes one past the first n
+--     Unchanged         a refused call changes no byte of the lent buffer; Untouched: no call changes one past the first n
 use mathlib.Core.Path.{_≡_}
 use mathlib.Core.List.{List, _++_}
 use Prim.Native.Nat.{ℕ, _≤_, _<_}
