@@ -31,7 +31,7 @@ received-many a b j k i (c ∷ cs) =
 
 module _ (k : ℕ) (a b : List ℕ) (alike : (j : ℕ) → j < k → message a j ≡ message b j) where
   received-alike : (j i : ℕ) (cs : List Carriage) → j + length (received [] 0 i cs) ≤ k → received a j i cs ≡ received b j i cs
-  unfolding received
+  unfolding received message
   received-alike j i [] h = refl
   received-alike j i (c ∷ cs) h =
       cases (eqb (c .receiver) i)

@@ -18,10 +18,10 @@ use Rattle.network.specs.Links.{Links}
 use Rattle.plan.specs.Due.{DueBlock}
 use Rattle.rules.specs.Blocks.{Block, Carriage}
 use Rattle.rules.specs.Rules.{InBlock}
-use Rattle.steps.specs.Hearing.{heard, all, common}
+use Rattle.steps.specs.Hearing.{message, heard, all, common}
 use Rattle.steps.specs.Steps.{Values, held, step1, gather, compare, step5, step6}
 use Rattle.steps.proofs.Eight.{values-at}
-use Rattle.steps.proofs.Same.{message-small}
+use Rattle.steps.proofs.Same.{read-small}
 use Rattle.steps.proofs.Folded.{taken}
 use Rattle.part.specs.Own.{source, carriagesOf, sent, given, received, Own, own1, ownGather, ownCompare, own5, own6, commit11, commit12, commit13, commit14, committed}
 use Rattle.part.specs.Beside.{Turn, delivered, runTurn}
@@ -89,11 +89,11 @@ module _ (n X : ℕ) (table : List ℕ) (k : ℕ) (b : Block) (run : Values) (i 
 -- bounds
 
 common-small : (arrived : List ℕ) (j i : ℕ) (cs : List Carriage) → common (received arrived j i cs) < 3
-unfolding common received
+unfolding common received message
 common-small arrived j i [] = omega arith
 common-small arrived j i (c ∷ cs) =
     by-cond (λ (l : List ℕ). common l < 3) (eqb (c .receiver) i) _ _
-    (λ e. by-cond (λ (x : ℕ). x < 3) (all _ (received arrived (suc j) i cs)) _ _ (λ q. message-small _ _) (λ q. omega arith))
+    (λ e. by-cond (λ (x : ℕ). x < 3) (all _ (received arrived (suc j) i cs)) _ _ (λ q. read-small _) (λ q. omega arith))
     (λ e. common-small arrived j i cs)
 
 -- v at most 1 and t at most 2

@@ -18,13 +18,13 @@ use borrow.Author.Tests.{eq-eqb, ltb-false}
 use Rattle.facts.specs.Lists.{Each}
 use Rattle.facts.proofs.Bools.{cases, by-cond}
 use Rattle.rules.specs.Blocks.{Carriage}
-use Rattle.steps.specs.Hearing.{hit, silence, message, brought, heard}
+use Rattle.steps.specs.Hearing.{hit, silence, read, message, brought, heard}
 use Rattle.part.specs.Own.{source, given, received}
 use Rattle.part.specs.Beside.{used, delivered}
 
 -- what a source gives
 
-given-first : (x : ℕ) (c : Carriage) (cs : List Carriage) → getD (given x (source c) (c ∷ cs)) 0 2 ≡ x
+given-first : (x : ℕ) (c : Carriage) (cs : List Carriage) → getD (given x (source c) (c ∷ cs)) 0 silence ≡ x
 unfolding given
 given-first x c cs = let e = eq-eqb (source c) (source c) refl in rw e refl
 
@@ -54,7 +54,8 @@ received-cons y arrived j i (c ∷ cs) =
     cases (eqb (c .receiver) i) (λ e. rw (e, here) refl) (λ e. rw e past)
 
 -- 0, 1 and 2 are read as they are
-as-it-is : (x : ℕ) → x < 3 → cond (ltb x 2) x 2 ≡ x
+as-it-is : (x : ℕ) → x < 3 → read x ≡ x
+unfolding read
 as-it-is x h = cases (ltb x 2) (λ e. rw e refl) (λ e. let l = ltb-false x 2 e in let two : x ≡ 2 = omega arith in rw two refl)
 
 -- the first byte of what arrives, as the server reads it
@@ -84,8 +85,8 @@ module _ (n X : ℕ) (table : List ℕ) (x : ℕ → ℕ) (small : (j : ℕ) →
       let l = below c (List·Memᴰ·head refl) in
       let ih = delivered-heard cs (λ d m. below d (List·Memᴰ·tail m)) (suc k) (used (source c) gave) (λ j h. used-given x gave c cs j (e j h)) r in
       let later = delivered X table (suc k) (used (source c) gave) cs r in
-      let y = getD (gave (source c)) 0 2 in
-      let own : y ≡ x (source c) = ap (λ (row : List ℕ). getD row 0 2) (e (source c) l) ∙ given-first (x (source c)) c cs in
+      let y = getD (gave (source c)) 0 silence in
+      let own : y ≡ x (source c) = ap (λ (row : List ℕ). getD row 0 silence) (e (source c) l) ∙ given-first (x (source c)) c cs in
       let first = message-given X table k x c y later (small (source c) l) own in
       let rest = received-cons (cond (hit X (c .before)) (getD table k silence) y) later 0 r cs ∙ ih in
       cases (eqb (c .receiver) r) (λ q. rw q (ap₂ (λ (z : ℕ) (zs : List ℕ). z ∷ zs) first rest)) (λ q. rw q ih)

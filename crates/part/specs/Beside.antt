@@ -46,7 +46,7 @@ unfoldable pub delivered : ℕ → List ℕ → ℕ → (ℕ → List ℕ) → L
 delivered X table k gave [] r = []
 delivered X table k gave (c ∷ cs) r =
     let later = delivered X table (suc k) (used (source c) gave) cs r in
-    cond (eqb (c .receiver) r) (cond (hit X (c .before)) (getD table k silence) (getD (gave (source c)) 0 2) ∷ later) later
+    cond (eqb (c .receiver) r) (cond (hit X (c .before)) (getD table k silence) (getD (gave (source c)) 0 silence) ∷ later) later
 
 abbrev pub States : Type 0
 States = ℕ → State

@@ -4,7 +4,7 @@
 --     heard-arrives     what a receiver hears is what arrives on the paths to it
 --     all-allAre        "all are x", in the words of either side
 --     common-agreed     the common value of some values, each 0, 1 or 2, is what they agree on
---     message-small     a message is 0, 1 or 2; arrives-small: so is what arrives if every held value is; spoiled-small: on the paths of a plan
+--     read-small        a byte is read as 0, 1 or 2; message-small: so a message is one of these; arrives-small: so is what arrives if every held value is; spoiled-small: on the paths of a plan
 --     arrives-each      a property of what arrives on each path is one of each arrival
 --     arrivals-same     what arrives depends on what the sources hold
 --     gathered          the common value of f + 1 arrivals is what they agree on
@@ -38,7 +38,7 @@ use Rattle.rules.specs.Rules.{sourcesFor, pairsOf, endsOf, Mesh, InBlock}
 use Rattle.rules.proofs.Lists.{members-in, in-members}
 use Rattle.rules.proofs.Groups.{each-cons, each-append}
 use Rattle.rules.proofs.Fans.{Different, members-different}
-use Rattle.steps.specs.Hearing.{hit, silence, message, brought, heard, all, common}
+use Rattle.steps.specs.Hearing.{hit, read, message, brought, heard, all, common}
 use Rattle.steps.specs.Steps.{held, gather, compare, step1, step5, step6, Values, runBlock}
 use Rattle.bc.specs.Algorithm.{Path, onWay, some, arrives, allAre, agreed, allBelow, equality, propagate, adopt, stepJ, within, case1, case2, bcBlock}
 use Rattle.bc.specs.Allowed.{Separate, Sound}
@@ -92,11 +92,13 @@ pub common-agreed : (l : List ℕ) → 0 < length l → Each (λ x. x < 3) l →
 common-agreed [] h s = absurd (omega arith)
 common-agreed (x ∷ xs) h s = common-cons x xs (s x (List·Memᴰ·head refl))
 
+pub read-small : (b : ℕ) → read b < 3
+unfolding read
+read-small b = by-cond (λ (x : ℕ). x < 3) (ltb b 2) _ _ (λ e. let z = ltb-true b 2 e in omega arith) (λ e. omega arith)
+
 pub message-small : (table : List ℕ) (k : ℕ) → message table k < 3
 unfolding message
-message-small table k =
-    let b = getD table k silence in
-    by-cond (λ (x : ℕ). x < 3) (ltb b 2) _ _ (λ e. let z = ltb-true b 2 e in omega arith) (λ e. omega arith)
+message-small table k = read-small _
 
 pub arrives-small : (X : Set) (t : ℕ → ℕ) (p : Path) → p .spoiled < 3 → t (p .source) < 3 → arrives X t p < 3
 unfolding arrives

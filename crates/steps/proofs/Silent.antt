@@ -4,12 +4,10 @@
 --     silence-means-open  the statement
 -- Assumes nothing.
 use mathlib.Core.Path.{_≡_, refl, ap}
-use mathlib.Core.Bool.{cond}
 use mathlib.Core.List.{List, [], _∷_, _++_}
 use Prim.Native.Nat.{ℕ, zero, suc}
-use lib.Dec.{ltb}
 use lib.ListN.{getD, replicate}
-use Rattle.steps.specs.Hearing.{silence, message}
+use Rattle.steps.specs.Hearing.{silence, read, message}
 use Rattle.steps.specs.Demand.{SilenceMeansOpen}
 use Rattle.steps.proofs.Unheard.{after-alike}
 
@@ -25,7 +23,7 @@ zeros-after (x ∷ xs) m (suc k) = zeros-after xs m k
 
 pub message-silent : (l : List ℕ) (m k : ℕ) → message (l ++ replicate m 0) k ≡ message l k
 unfolding message
-message-silent l m k = ap (λ (b : ℕ). cond (ltb b 2) b 2) (zeros-after l m k)
+message-silent l m k = ap read (zeros-after l m k)
 
 pub silence-means-open : SilenceMeansOpen
 silence-means-open card plan inputs X table lent m =

@@ -20,7 +20,7 @@ use Rattle.network.specs.Card.{Network, network, refused, readCard}
 use Rattle.plan.specs.Check.{Totals, totals, turned}
 use Rattle.rules.specs.Blocks.{Carriage, Block, carriageOf, reportCarriages, carriagesOf, planCarriages, decodePlan}
 use Rattle.rules.proofs.Main.{totalled}
-use Rattle.steps.specs.Hearing.{hit, silence, message, brought, heard, all, common}
+use Rattle.steps.specs.Hearing.{hit, silence, read, message, brought, heard, all, common}
 use Rattle.steps.specs.Steps.{held, gather, compare, step1, step5, step6, Values, values, runBlock, runBlocks}
 use Rattle.steps.specs.Run.{runPlan, decided, written, afterAnswer, lentAfter}
 use Rattle.steps.specs.Demand.{carriagesIn, Unheard}
@@ -33,7 +33,7 @@ part-at c d s s′ e k h = sym (getD-take c s k d h) ∙ ap (λ (l : List ℕ). 
 
 pub message-same : (c : ℕ) (table table′ : List ℕ) → take c table ≡ take c table′ → (k : ℕ) → k < c → message table k ≡ message table′ k
 unfolding message
-message-same c table table′ e k h = ap (λ (b : ℕ). cond (ltb b 2) b 2) (part-at c silence table table′ e k h)
+message-same c table table′ e k h = ap read (part-at c silence table table′ e k h)
 
 -- how many carriages a block has, kind by kind
 carriages-long : (b : Block)

@@ -1,5 +1,6 @@
 -- What a carriage brings to its receiver, and what a receiver hears. X is the faulty set handed to the call, `table` the message table.
---     silence        == what a missing byte is read as
+--     silence        == what a missing byte is taken for
+--     read b         == a byte as a value: 0 and 1 as they are, any other as 2
 --     message ..     == the byte of a number, as it is read
 --     brought ..     == the table's byte of the carriage's number if a server other than the receiver is faulty, else what the source holds
 --     heard ..       == what the carriages whose receiver is r bring, in plan order; the first of the list has number k
@@ -21,9 +22,11 @@ hit X (s ∷ ss) = has X s || hit X ss
 abbrev pub silence : ℕ
 silence = 0
 
--- 0 and 1 as they are, any other value as 2
+unfoldable pub read : ℕ → ℕ
+read b = cond (ltb b 2) b 2
+
 unfoldable pub message : List ℕ → ℕ → ℕ
-message table k = let b = getD table k silence in cond (ltb b 2) b 2
+message table k = read (getD table k silence)
 
 unfoldable pub brought : ℕ → List ℕ → ℕ → (ℕ → ℕ) → Carriage → ℕ
 brought X table k held c = cond (hit X (c .before)) (message table k) (held (getD (c .before) 0 0))

@@ -23,7 +23,7 @@ use Rattle.plan.specs.Check.{isDue, routeAt, checkGroup, checkGroups, allLinked
 use Rattle.rules.specs.Blocks.{routesAt, reportsAt, inwardDue, amongDue, outwardDue, decodeBlock, lengthOf, decodeBlocks, decodePlan, reportCarriages, carriagesOf}
 use Rattle.load.specs.Load.{relaysOf, relayed, routesOf, planRoutes, countsFrom, loadOf, loadCall}
 use Rattle.load.specs.Places.{hasRoute, operandsFrom, operandsIn, placesOf, placesIn}
-use Rattle.steps.specs.Hearing.{hit, message, brought, heard, all, common}
+use Rattle.steps.specs.Hearing.{hit, read, message, brought, heard, all, common}
 use Rattle.steps.specs.Steps.{valuesFrom, values, step1, gather, compare, step5, step6, runBlock, runBlocks}
 use Rattle.steps.specs.Run.{areBits, checkCall, runOn, runPlan, decided, written, lentAfter}
 use Rattle.part.specs.Own.{sent, received, own1, ownGather, ownCompare, own5, own6, commit11, commit12, commit13, commit14, committed}
@@ -66,7 +66,7 @@ passing-each (first ∷ rs) h r m =
 
 -- one `refl` a row, in the table's order: of a row that fails the checker prints the name
 computed : Passing table
-unfolding test sameList has single union meet minus within full count size firstIn lowest noLinks linkedIn withLink headFits linkFits headAt linkAt endAt stepAt commands readCard someBelow incoming held rest isSplit isBad badAt firstFrom badWithSides badWithFaults firstBad splitTest oneWay linkTo others parts separates separable connectivity serversWanted awayWanted olderRule quickTest linkBytes cardBytes linksAmong ascending printCard cleanCard fitting printInto printedIn listFrom members isPart due fan toOne pairs routesDue path isFill filled serversOf goesOn isPath isRoute checkedRoute routeSet width isCut isDue routeAt checkGroup checkGroups allLinked isReport checkReports checkBlock checkBlocks checkEnd checkOn checkPlan routesAt reportsAt inwardDue amongDue outwardDue decodeBlock lengthOf decodeBlocks decodePlan reportCarriages carriagesOf relaysOf relayed routesOf planRoutes countsFrom loadOf loadCall hasRoute operandsFrom operandsIn placesOf placesIn hit message brought heard all common valuesFrom values step1 gather compare step5 step6 runBlock runBlocks areBits checkCall runOn runPlan decided written lentAfter Own.carriagesOf sent Own.given received own1 ownGather ownCompare own5 own6 commit11 commit12 commit13 commit14 committed first isEnd placed stands opened nextBlock nextKind next siteOf fromBlock blockOf startOn valuesDue askOn commitOn startCall askCall commitCall turns delivered besideTurn besideOver startBeside shownBeside
+unfolding test sameList has single union meet minus within full count size firstIn lowest noLinks linkedIn withLink headFits linkFits headAt linkAt endAt stepAt commands readCard someBelow incoming held rest isSplit isBad badAt firstFrom badWithSides badWithFaults firstBad splitTest oneWay linkTo others parts separates separable connectivity serversWanted awayWanted olderRule quickTest linkBytes cardBytes linksAmong ascending printCard cleanCard fitting printInto printedIn listFrom members isPart due fan toOne pairs routesDue path isFill filled serversOf goesOn isPath isRoute checkedRoute routeSet width isCut isDue routeAt checkGroup checkGroups allLinked isReport checkReports checkBlock checkBlocks checkEnd checkOn checkPlan routesAt reportsAt inwardDue amongDue outwardDue decodeBlock lengthOf decodeBlocks decodePlan reportCarriages carriagesOf relaysOf relayed routesOf planRoutes countsFrom loadOf loadCall hasRoute operandsFrom operandsIn placesOf placesIn hit read message brought heard all common valuesFrom values step1 gather compare step5 step6 runBlock runBlocks areBits checkCall runOn runPlan decided written lentAfter Own.carriagesOf sent Own.given received own1 ownGather ownCompare own5 own6 commit11 commit12 commit13 commit14 committed first isEnd placed stands opened nextBlock nextKind next siteOf fromBlock blockOf startOn valuesDue askOn commitOn startCall askCall commitCall turns delivered besideTurn besideOver startBeside shownBeside
 computed = (refl, (refl, (refl, (refl, (refl, (refl, (refl, (refl, (refl, (refl, (refl, (refl, (refl, (refl, (refl, (refl, (refl, (refl, (refl, (refl, (refl, (refl, (refl, (refl, (refl, (refl, (refl, (refl, (refl, (refl, (refl, (refl, (refl, (refl, (refl, (refl, (refl, (refl, (refl, (refl, (refl, (refl, (refl, (refl, (refl, (refl, (refl, (refl, (refl, (refl, (refl, (refl, (refl, (refl, (refl, (refl, (refl, (refl, (refl, (refl, (refl, (refl, (refl, (refl, (refl, (refl, (refl, (refl, (refl, (refl, (refl, (refl, (refl, (refl, (refl, (refl, (refl, (refl, (refl, (refl, (refl, (refl, (refl, (refl, (refl, (refl, (refl, tt)))))))))))))))))))))))))))))))))))))))))))))))))))))))))))))))))))))))))))))))))))))))
 
 pub table-holds : (r : Row) → List·Memᴰ r table → Holds r

@@ -303,7 +303,7 @@ mod tests {
     }
 
     #[test]
-    fn what_is_missing_in_the_middle_leaves_the_later_ones_in_their_places() {
+    fn what_is_missing_has_the_place_of_its_carriage() {
         // Office 2 hears office 0, office 1 and office 3, each over a link of its own.
         let plan = [
             0x10, 0, 1, 1, // a block

@@ -230,26 +230,42 @@ fn silent_offices_are_missed_in_time() {
     assert!(begun.elapsed() >= Duration::from_secs(10));
 }
 
-/// Silence counts as open, whether the office is there or not. At this site the others would
-/// decide otherwise if it counted as unsure. Those who wait for it in vain do so to the end of
-/// nine slots.
+/// The site `silent`, and what its run decides where its failing office says closed by this
+/// many carriages and then nothing. The others would decide otherwise if silence counted as
+/// unsure.
+fn silent_after(said: usize) -> (Site, Vec<u8>, String) {
+    let site = Site::example("silent");
+    let table = vec![1; said];
+    let expected = site.run(&table);
+    let totals = agreement::check_plan(&site.card, &site.plan).expect("a sound plan");
+    let mut unsure = table.clone();
+    unsure.resize(totals.carriages, 2);
+    assert_ne!(site.run(&unsure), expected);
+    (site, table, expected)
+}
+
+/// Silence counts as open, whether the office is there or not. Those who wait for it in vain
+/// do so to the end of nine slots.
 #[test]
 fn silent_offices_say_open() {
-    let site = Site::example("silent");
-    let expected = site.run(&[]);
+    let (_, _, expected) = silent_after(0);
     let stored = example("silent").join("expected/rehearse.txt");
     let rehearsed = fs::read_to_string(stored).expect("the example is there");
     assert_eq!(expected, rehearsed);
-    let totals = agreement::check_plan(&site.card, &site.plan).expect("a sound plan");
-    let unsure = vec![2; totals.carriages];
-    assert_ne!(site.run(&unsure), expected);
-    for options in [
-        &["--absent", PATIENT[0], PATIENT[1]][..],
-        &["--wait", "2000"],
-    ] {
-        let printed = offices(&example("silent"), options);
-        assert_eq!(printed, (expected.clone(), DECIDED));
-    }
+    let absent = offices(&example("silent"), &["--absent", PATIENT[0], PATIENT[1]]);
+    assert_eq!(absent, (expected.clone(), DECIDED));
+    let begun = Instant::now();
+    let waited_for = offices(&example("silent"), &["--wait", "2000"]);
+    assert_eq!(waited_for, (expected, DECIDED));
+    assert!(begun.elapsed() >= Duration::from_secs(18));
+}
+
+/// So does that of one that falls silent later on: its first value still comes.
+#[test]
+fn offices_that_fall_silent_say_open_from_there_on() {
+    let (site, table, expected) = silent_after(9);
+    let printed = offices(&site.folder(&table).0, &["--wait", "2000"]);
+    assert_eq!(printed, (expected, DECIDED));
 }
 
 #[test]

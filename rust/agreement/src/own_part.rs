@@ -108,7 +108,8 @@ pub fn start(card: &[u8], plan: &[u8], server: u8, input: u8) -> Result<State, R
 
 /// Writes what `server` sends as source in its state's kind of its block to the front of
 /// `lent`, a byte for each of these carriages in plan order, and answers with their number
-/// and with the state, in which the ask is now open.
+/// and with the state, in which the ask is now open. A 2, for unsure, has to be sent like a
+/// bit: one that does not come counts as 0.
 ///
 /// At the end of the plan the one value is the decided bit, as often as it is asked, and no
 /// ask opens.
@@ -365,7 +366,7 @@ pub struct Sending<'a> {
 
 impl<'a> Sending<'a> {
     /// What it sends, a value for each carriage of its state's kind and block whose source
-    /// it is, in plan order: 0, 1, or 2 for unsure.
+    /// it is, in plan order: 0, 1, or 2 for unsure, which has to be sent too.
     pub fn values(&self) -> &[u8] {
         &self.lent[..self.count]
     }
@@ -483,17 +484,18 @@ mod tests {
 
     #[test]
     fn what_arrives_is_read_as_in_the_run() {
-        let state = State::from_words([0, State::FROM_QUORUM, 0, 1, 1]);
+        let state = State::from_words([0, State::FROM_QUORUM, 1, 1, 1]);
         let committed = |arrived: &[u8]| {
             let state = commit(&P1, &P5, 1, state, arrived).expect("an ask is open");
             (state.v, state.t)
         };
         for (arrived, expected) in [
-            (&[][..], (0, 2)),
+            // Silence means open.
+            (&[][..], (0, 0)),
             (&[0], (0, 0)),
             (&[1], (1, 1)),
-            (&[2], (0, 2)),
-            (&[255], (0, 2)),
+            (&[2], (1, 2)),
+            (&[255], (1, 2)),
             // One byte is due.
             (&[1, 0], (1, 1)),
         ] {

@@ -24,5 +24,5 @@ fn given_cards_take_the_round_trip() {
     };
     assert_eq!(cards, trips(330 + 257, 662 + 420));
     assert_eq!(plans, trips(207, 216));
-    assert_eq!(runs, trips(357, 363));
+    assert_eq!(runs, trips(358, 364));
 }

@@ -105,7 +105,7 @@ pub fn aimed_table(rng: &mut Rng, aim: usize, carriages: &[Carriage], inputs: &[
         6 => 1 - input(carriage.source),
         // Whoever the route comes from decides what is said, and to whom it is said.
         7 => is_in(one, carriage.receiver) ^ is_in(other, carriage.source),
-        // No bits, which keeps different values apart for long, and bits from some block on.
+        // No bits, which keep different values apart for long, and bits from some block on.
         _ if carriage.block < turn => 2,
         _ => rng.below(2) as u8,
     });

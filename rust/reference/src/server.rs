@@ -905,7 +905,7 @@ mod tests {
     }
 
     #[test]
-    fn what_stands_for_a_missing_byte_is_read_as_one() {
+    fn what_stands_for_a_missing_byte_is_read_as_a_missing_one() {
         assert_eq!(message(Some(message(None))), message(None));
     }
 

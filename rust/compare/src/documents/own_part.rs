@@ -84,7 +84,6 @@ static WALK: LazyLock<Walk> = LazyLock::new(|| {
     }
 });
 
-/// The kinds of carriages, in the order in which a server takes them.
 /// The one byte that a commit takes as it takes a missing one. Server 1 has one arrival due at
 /// the start, by which it takes t.
 static SILENCE: LazyLock<u8> = LazyLock::new(|| {
@@ -103,6 +102,7 @@ static SILENCE: LazyLock<u8> = LazyLock::new(|| {
     }
 });
 
+/// The kinds of carriages, in the order in which a server takes them.
 fn kinds() -> Vec<u8> {
     WALK.taken.iter().map(|taken| taken.kind).collect()
 }

@@ -88,7 +88,8 @@ pub fn stated(documents: &Documents) -> Held {
     let no_bit = NO_BIT.most();
     documents.theorems.says_all(&[
         format!("a missing byte of the message table does what the byte {silence} does:"),
-        format!("and with {no_bit} in the place of its silence;"),
-        format!("arrivals that are missing or {no_bit} beside a bit,"),
+        format!("and with {no_bit} in the place of its silence, which decides otherwise;"),
+        format!("arrivals that are missing or {no_bit}, beside a bit"),
+        format!("gives one value, 0, 1 or {UNSURE}, on each of its carriages,"),
     ])
 }
