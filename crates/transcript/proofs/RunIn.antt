@@ -1,11 +1,11 @@
--- run.in cut into its parts: what a part that is whole, cut short or not there is.
+-- run.in cut into its parts: what a part that is whole, cut short or not there is, and what zeros after run.in are to it.
 -- Assumes nothing.
 use mathlib.Core.Path.{_≡_, refl, sym, ap, _∙_}
-use mathlib.Core.List.{List, []}
+use mathlib.Core.List.{List, [], _++_}
 use Prim.Native.Nat.{ℕ, _+_, _-_, _≤_, _<_}
 use native.Mathlib.Omega.{arith}
-use lib.ListN.{length, take, drop, length-drop, drop-of-length-le, List·getD-eq-default}
-use lib.Seq.{take-all, take-nil}
+use lib.ListN.{length, take, drop, replicate, length-drop, drop-of-length-le, List·getD-eq-default, List·getD-append}
+use lib.Seq.{take-all, take-nil, take-append-le, drop-append-le}
 use Rattle.transcript.specs.Text.{faultyOf, inputsOf, tableOf}
 
 module _ (l : List ℕ) where
@@ -37,3 +37,20 @@ module _ (l : List ℕ) where
     pub table-none : length l < n + 1 → [] ≡ tableOf n l
     unfolding tableOf
     table-none h = sym (drop-of-length-le l {i = 1 + n} (omega arith))
+
+    -- zeros after a run.in with all its inputs
+
+    module _ (m : ℕ) (h : n < length l) where
+      pub faulty-silent : faultyOf (l ++ replicate m 0) ≡ faultyOf l
+      unfolding faultyOf
+      faulty-silent = List·getD-append l (replicate m 0) 0 0 (omega arith)
+
+      pub inputs-silent : inputsOf n (l ++ replicate m 0) ≡ inputsOf n l
+      unfolding inputsOf
+      inputs-silent =
+          let k = length-drop 1 l in
+          ap (take n) (drop-append-le 1 l (replicate m 0) (omega arith)) ∙ take-append-le n (drop 1 l) (replicate m 0) (omega arith)
+
+      pub table-silent : tableOf n (l ++ replicate m 0) ≡ tableOf n l ++ replicate m 0
+      unfolding tableOf
+      table-silent = drop-append-le (1 + n) l (replicate m 0) (omega arith)
