@@ -4,7 +4,7 @@
 --     commit-alike    so the commit gives the same for them, whatever its answer
 --     beyond-due      the statement
 -- Assumes nothing.
-use mathlib.Core.Path.{_≡_, refl, ap}
+use mathlib.Core.Path.{_≡_, refl, ap, ap₂}
 use mathlib.Core.List.{List, [], _∷_}
 use Prim.Native.Nat.{ℕ, suc, _+_, _≤_, _<_}
 use native.Mathlib.Omega.{arith}
@@ -38,7 +38,7 @@ module _ (k : ℕ) (a b : List ℕ) (alike : (j : ℕ) → j < k → message a j
       (λ e. let n = rw e at h in
       let here = alike j (omega arith) in
       let later = received-alike (suc j) i cs (let z = received-many [] [] 1 0 i cs in omega arith) in
-      rw (e, here, later) refl)
+      rw e (ap₂ (λ (x : ℕ) (l : List ℕ). x ∷ l) here later))
       (λ e. let n = rw e at h in rw e (received-alike j i cs n))
 
 module _ (plan : List ℕ) (n f : ℕ) (links : Links) (i : ℕ) (s : State) (a b : List ℕ)

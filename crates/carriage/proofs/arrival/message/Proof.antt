@@ -7,7 +7,7 @@ use Rattle.carriage.proofs.arrival.message.Reads as reads
 use Rattle.carriage.proofs.arrival.message.Lts as lts
 
 returns : tie.Need-returns
-returns c = message-none _ _ (c .if1 .taken)
+returns c = message-none (c .before .args .bytes .now) (c .before .args .number) (c .if1 .taken)
 
 shared-slice-read-byte : tie.Need-shared-slice-read-byte
 shared-slice-read-byte c = search needs
