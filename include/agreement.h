@@ -61,7 +61,7 @@
  *   carriages in turn, those too that are empty or none of its business, it asks and commits:
  *   agreement_ask says what it sends as source, agreement_commit takes in what arrived for it as
  *   receiver. At the end agreement_ask gives the decided bit. Carrying the values, and waiting for
- *   those due, is the caller's part; a value that does not come counts as 0, open.
+ *   those due, is the caller's part; a value that does not come counts as 0.
  *
  *   The library keeps nothing between two calls: the state is the caller's own, who keeps it, may
  *   store it, and hands it to the next call. Its words are
@@ -240,7 +240,7 @@ void agreement_load(const uint8_t *card, size_t card_length, const uint8_t *plan
  *
  * `inputs` has each server's bit, `faulty` the servers that fail, and `table` what arrives by each
  * carriage that a faulty server has spoiled: the byte of the carriage's number, 0 or 1, any other
- * counting as unsure and a missing one as 0. So silence means open.
+ * counting as unsure and a missing one as 0: no word from an office means that the recap is open.
  *
  * answer: 0, blocks, carriages, 0. Then the first n bytes of `lent` are the decided bits, 2 for a
  * faulty server, and its later bytes are as they were. The bits of all servers that are not faulty

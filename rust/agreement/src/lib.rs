@@ -360,9 +360,9 @@ pub fn load(card: &[u8], plan: &[u8]) -> Result<Load, Refusal> {
 /// The run plays the whole network: `inputs` holds each server's input bit, `faulty` is
 /// the set of faulty servers, and `table` says for each carriage what arrives if a faulty
 /// server had it in hand. Any bytes will do, as many as there are: 0 and 1 are taken as they
-/// are, any other byte as unsure and a missing one as 0, so that silence means open. Card and
-/// plan are checked first. A refused call changes no byte of `lent`, and bytes of `lent` past
-/// the last server are never touched.
+/// are, any other byte as unsure and a missing one as 0: no word from an office means that the
+/// recap is open. Card and plan are checked first. A refused call changes no byte of `lent`,
+/// and bytes of `lent` past the last server are never touched.
 ///
 /// Whatever the faulty servers have arrive, an answered call leaves all sound servers
 /// with one bit, which was the input of a sound server.

@@ -253,7 +253,7 @@ fn in_header(documents: &Documents) -> Held {
     };
     let silence = *SILENCE;
     page.says_all(&[
-        format!("a value that does not come counts as {silence}, open."),
+        format!("a value that does not come counts as {silence}."),
         format!("to start: the server's own input above {most_input}"),
         format!("or with v above {most_v}, t above {most_t} or open above {most_open}"),
         format!("in each block for the kinds {} of carriages in turn", listed(&kinds)),

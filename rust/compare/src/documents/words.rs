@@ -113,6 +113,6 @@ pub fn stated(documents: &Documents) -> Held {
         format!("{HEAD:02X} is not first, or not the only one"),
         "call: inputs not n bytes of 0 or 1".to_string(),
         "servers are 0 to n-1,".to_string(),
-        format!("0 or 1, any other counting as unsure and a missing one as {silence}. So silence"),
+        format!("0 or 1, any other counting as unsure and a missing one as {silence}: no word"),
     ])
 }
