@@ -94,7 +94,7 @@ extern "C" {
 /* The version of this header. */
 #define AGREEMENT_VERSION_MAJOR 0
 #define AGREEMENT_VERSION_MINOR 7
-#define AGREEMENT_VERSION_PATCH 0
+#define AGREEMENT_VERSION_PATCH 1
 #define AGREEMENT_VERSION \
     (UINT64_C(1000000) * AGREEMENT_VERSION_MAJOR + UINT64_C(1000) * AGREEMENT_VERSION_MINOR + \
      AGREEMENT_VERSION_PATCH)
@@ -216,6 +216,9 @@ void agreement_quick_test(const uint8_t *card, size_t card_length, uint64_t answ
  * The plan check: does the plan meet the route rules for the card's network?
  * answer: 0, blocks, carriages, 0 exactly if it does; or 2, AGREEMENT_CARD or AGREEMENT_PLAN,
  * number, place.
+ * An accepted plan shows a good network, so one check is enough: wherever some plan is answered 0,
+ * blocks, carriages, 0, agreement_split_test answers 0, 0, 0, 0, 0 for the same card, and n is at
+ * least 3f+1. Of the network of a refused plan nothing is said.
  */
 void agreement_check_plan(const uint8_t *card, size_t card_length, const uint8_t *plan,
                           size_t plan_length, uint64_t answer[4]);

@@ -7,6 +7,7 @@
 --     counts-laid      0 and eight counts, laid entry by entry
 --     load-counted, load-refused   the load, with what the counts add up to
 --     run-words        a run
+--     plan-words       the plan check, with what an accepted plan says of the card
 --     quick-words      the quick test, with what it says of the split test; held-words its yes or no
 -- Assumes nothing.
 use mathlib.Core.Path.{_≡_, refl, sym, ap, ap₂, _∙_}
@@ -32,6 +33,10 @@ use Rattle.network.proofs.LinkRows.{rows-none}
 use Rattle.two_way.specs.Quick.{Quick, ruled, quickTest}
 use Rattle.two_way.specs.Quick as Quick
 use Rattle.two_way.proofs.Main.{agrees}
+use Rattle.plan.specs.Check.{Totals, totals, checkPlan}
+use Rattle.plan.specs.Check as Check
+use Rattle.rules.specs.Theorems.{Accepted}
+use Rattle.rules.proofs.Main.{shows-good, shows-wide}
 use Rattle.load.specs.Load.{added}
 use Rattle.load.specs.Answers.{loadedOf}
 use Rattle.load.specs.Answers as Load
@@ -40,7 +45,7 @@ use Rattle.load.specs.declared.Loaded.{Loaded}
 use Rattle.run.specs.declared.call.Ran.{Ran}
 use Rattle.run.specs.Answers.{ranOf}
 use Rattle.run.specs.Answers as Run
-use Rattle.agreement.specs.Words.{refusedWords, cardWords, printWords, PrintWords, splitWords, quickWords, QuickWords, planWords, loadWords, LoadWords, RunWords}
+use Rattle.agreement.specs.Words.{refusedWords, cardWords, printWords, PrintWords, splitWords, quickWords, QuickWords, planWords, PlanWords, loadWords, LoadWords, RunWords}
 
 module _ (r : Refused) (w m p : ℕ) (a : w ≡ whoseOf r) (b : m ≡ numberOf r) (c : p ≡ placeOf r) where
   pub split-refused : (s : Split) → s ≡ unread r → 2 ∷ w ∷ m ∷ p ∷ 0 ∷ [] ≡ splitWords s
@@ -96,6 +101,23 @@ run-words card plan inputs X table lent r after words a w =
       bytes = a .bytes;
       agreed = λ n f links e blocks carriages q. a .agreed n f links e blocks carriages (a .answer ∙ q);
     }
+
+-- the words of the plan check, with what those of an accepted plan say of the card
+module _ (card plan words : List ℕ) (e : words ≡ planWords (checkPlan card plan)) where
+  accepted : (blocks carriages : ℕ) → words ≡ 0 ∷ blocks ∷ carriages ∷ 0 ∷ [] → Accepted card plan
+  accepted blocks carriages w = go (checkPlan card plan) refl (sym e ∙ w)
+    where
+      go : (t : Totals) → checkPlan card plan ≡ t → planWords t ≡ 0 ∷ blocks ∷ carriages ∷ 0 ∷ [] → Accepted card plan
+      go (totals b c) q w = (b, c, q)
+      go (Check.turned r) q w = let z : _≡_ {A = ℕ} 2 0 = head-eq-of-cons-eq w in absurd (omega arith)
+
+  pub plan-words : PlanWords card plan words
+  plan-words =
+      record {
+        answer = e;
+        showsGood = λ blocks carriages w. shows-good card plan (accepted blocks carriages w);
+        showsWide = λ blocks carriages w n f links q. shows-wide card plan n f links q (accepted blocks carriages w);
+      }
 
 -- the words of the quick test, with what they say of the split test
 module _ (card words : List ℕ) (e : words ≡ quickWords (quickTest card)) where

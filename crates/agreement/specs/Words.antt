@@ -3,7 +3,7 @@
 use mathlib.Core.Path.{_≡_}
 use mathlib.Core.Bool.{cond}
 use mathlib.Core.List.{List, [], _∷_, _++_}
-use Prim.Native.Nat.{ℕ}
+use Prim.Native.Nat.{ℕ, _+_, _*_, _≤_}
 use lib.ListN.{length, getD}
 use Rattle.refusal.specs.Refused.{Refused, whoseOf, numberOf, placeOf}
 use Rattle.network.specs.Card.{Network, network, refused, readCard}
@@ -13,7 +13,7 @@ use Rattle.network.specs.Split.{Split, good, bad, unread, splitTest}
 use Rattle.network.specs.Print.{Print, wrote, unwritten, printInto, printedIn}
 use Rattle.two_way.specs.Quick.{Quick, ruled, quickTest}
 use Rattle.two_way.specs.Quick as Quick
-use Rattle.plan.specs.Check.{Totals, totals}
+use Rattle.plan.specs.Check.{Totals, totals, checkPlan}
 use Rattle.plan.specs.Check as Check
 use Rattle.load.specs.Load.{added, Load, counted, loadCall}
 use Rattle.load.specs.Load as Load
@@ -59,6 +59,13 @@ pub record QuickWords (card words : List ℕ) : Type 0 where
 abbrev pub planWords : Totals → List ℕ
 planWords (totals blocks carriages) = 0 ∷ blocks ∷ carriages ∷ 0 ∷ []
 planWords (Check.turned r) = refusedWords r
+
+-- the words of the plan check; `showsGood` and `showsWide` are what those of an accepted plan say of the card
+pub record PlanWords (card plan words : List ℕ) : Type 0 where
+  pub answer : words ≡ planWords (checkPlan card plan)
+  pub showsGood : (blocks carriages : ℕ) → words ≡ 0 ∷ blocks ∷ carriages ∷ 0 ∷ [] → splitTest card ≡ good
+  pub showsWide : (blocks carriages : ℕ) → words ≡ 0 ∷ blocks ∷ carriages ∷ 0 ∷ []
+      → (n f : ℕ) (links : Links) → readCard card ≡ network n f links → 3 * f + 1 ≤ n
 
 abbrev pub loadWords : Load → List ℕ
 loadWords (counted counts) = 0 ∷ counts

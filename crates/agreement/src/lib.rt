@@ -24,10 +24,10 @@ ghost use Rattle.network.specs.Card.{readCard};
 ghost use Rattle.network.specs.Links.{linkedIn};
 ghost use Rattle.network.specs.Rows.{rowsOf};
 ghost use Rattle.network.specs.Split.{splitTest};
-ghost use Rattle.plan.specs.Check.{totals, checkPlan};
+ghost use Rattle.plan.specs.Check.{totals};
 ghost use Rattle.part.specs.Calls.{startCall, commitCall};
 ghost use Rattle.server.specs.Answers.{stateOf, verdictOf};
-ghost use Rattle.agreement.specs.Words.{refusedWords, cardWords, PrintWords, splitWords, QuickWords, planWords, LoadWords, RunWords, stateFrom, stateWords, steppedWords, AskWords};
+ghost use Rattle.agreement.specs.Words.{refusedWords, cardWords, PrintWords, splitWords, QuickWords, planWords, PlanWords, LoadWords, RunWords, stateFrom, stateWords, steppedWords, AskWords};
 ghost use Rattle.agreement.specs.Version.{version};
 
 // The version of this library: 1,000,000 * major + 1,000 * minor + patch.
@@ -35,7 +35,7 @@ ghost use Rattle.agreement.specs.Version.{version};
 pub extern "C" fn agreement_version() -> u64
     ensures { λ r. ⌜ r ≡ version ⌝ }
 {
-    7_000
+    7_001
 }
 
 // 2, what is at fault, the refusal's number, its place.
@@ -157,11 +157,11 @@ pub extern "C" fn agreement_quick_test(card: &[u8], answer: &mut [u64; 4])
     }
 }
 
-// The plan check. The answer is 0, the number of blocks, the number of carriages, 0; or 2, what is
-// at fault, the refusal's number, its place.
+// The plan check. The answer is 0, the number of blocks, the number of carriages, 0, and then no
+// split of the card's network is bad; or 2, what is at fault, the refusal's number, its place.
 #[no_mangle]
 pub extern "C" fn agreement_check_plan(card: &[u8], plan: &[u8], answer: &mut [u64; 4])
-    ensures { λ r. ⌜ now (answer .exit) ≡ planWords (checkPlan (now (card .entry)) (now (plan .entry))) ⌝ }
+    ensures { λ r. ⌜ PlanWords (now (card .entry)) (now (plan .entry)) (now (answer .exit)) ⌝ }
 {
     let checked = check::check_plan(card, plan);
     match checked {

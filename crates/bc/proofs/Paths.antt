@@ -1,7 +1,5 @@
 -- Paths that are pairwise apart, and what the arrivals on them agree on.
 --     some-witness    a list with a server of X has one to show; some-member the other way
---     count-past      taking out a server that is not below n leaves the count
---     count-without   taking a member below n out of a set lowers the count by one
 --     pigeon          paths that are apart and each have a server of X are no more than the servers of X
 --     find-clear      one of the paths has no server of X, or each has one
 --     clear-one       of f + 1 paths that are apart one has no server of X, if X has at most f
@@ -12,15 +10,16 @@
 -- Assumes nothing.
 use mathlib.Core.Path.{_≡_, refl, sym, _∙_, subst}
 use mathlib.Core.Logic.{_⊎_, inl, inr, ⊎-elim}
-use mathlib.Core.Bool.{true, false, not, _&&_}
+use mathlib.Core.Bool.{true, false}
 use mathlib.Core.List.{List, [], _∷_, map, List·Memᴰ, List·Memᴰ·head, List·Memᴰ·tail, Memᴰ·map, Memᴰ·cast}
-use Prim.Native.Nat.{ℕ, zero, suc, _≤_, _<_}
+use Prim.Native.Nat.{ℕ, _≤_, _<_}
 use native.Mathlib.Omega.{arith}
 use lib.Dec.{eqb}
 use lib.ListN.{length}
-use borrow.Author.Tests.{ne-eqb, eqb-true, eqb-false}
+use borrow.Author.Tests.{ne-eqb, eqb-true}
 use Rattle.facts.proofs.Bools.{cases, by-cond, clash, is-false, bools}
 use Rattle.sets.specs.Sets.{Set, In, Out, count}
+use Rattle.sets.proofs.Counts.{without, count-without}
 use Rattle.facts.specs.Lists.{Each}
 use Rattle.bc.specs.Algorithm.{Path, onWay, Values, some, arrives, allAre, agreed}
 use Rattle.bc.specs.Allowed.{AllApart, Separate}
@@ -37,26 +36,6 @@ pub some-member : (X : Set) (l : List ℕ) (s : ℕ) → List·Memᴰ s l → In
 unfolding some
 some-member X l s (List·Memᴰ·head {x} {xs} e) q = cc
 some-member X l s (List·Memᴰ·tail {x} {xs} m) q = let ih = some-member X xs s m q in cases (X x) (λ a. cc) (λ a. cc)
-
--- X less server s
-abbrev pub without : ℕ → Set → Set
-without s X i = not (eqb i s) && X i
-
-pub count-past : (n s : ℕ) (X : Set) → n ≤ s → count n (without s X) ≡ count n X
-unfolding count
-count-past zero s X h = refl
-count-past (suc n) s X h =
-    let ih = count-past n s X (omega arith) in
-    let e = ne-eqb n s (omega arith) in
-    cases (X n) (λ q. cc) (λ q. cc)
-
-pub count-without : (n s : ℕ) (X : Set) → s < n → In X s → count n X ≡ suc (count n (without s X))
-unfolding count
-count-without zero s X h q = absurd (omega arith)
-count-without (suc n) s X h q =
-    cases (eqb n s)
-    (λ e. let z = eqb-true n s e in let past = count-past n s X (omega arith) in let i : X n ≡ true = rw z q in cc)
-    (λ e. let z = eqb-false n s e in let ih = count-without n s X (omega arith) q in cases (X n) (λ a. cc) (λ a. cc))
 
 pub pigeon : (n : ℕ) (X : Set) (ps : List Path) → AllApart ps → Each (λ p. Each (λ s. s < n) (onWay p)) ps
     → Each (λ p. some X (onWay p) ≡ true) ps → length ps ≤ count n X

@@ -47,7 +47,7 @@ members-different s = listed-different 8 0 (has s)
 
 -- what stands in a list of repeated numbers is one of them
 
-in-replicate : (k r x : ℕ) → List·Memᴰ x (replicate k r) → x ≡ r
+pub in-replicate : (k r x : ℕ) → List·Memᴰ x (replicate k r) → x ≡ r
 in-replicate zero r x m = elim m [ ]
 in-replicate (suc k) r x m = ⊎-elim (λ (e : x ≡ r). e) (in-replicate k r x) (List·Memᴰ·cases-cons m)
 

@@ -3,6 +3,10 @@
 --     decodes    the decoded blocks of an accepted plan are the due ones within the rules, and encode to its bytes
 --     totalled   the totals are those of the decoded plan
 --     grouped    the blocks of one F stand together, with every cut
+-- And what acceptance alone shows of a card:
+--     shows-routable, routable-condition   its network is routable, and so it meets Theorem 1's condition
+--     shows-good   the split test on the card says "none"
+--     shows-wide   n is at least 3f + 1
 -- Assumes nothing.
 use mathlib.Core.Path.{_≡_, refl, sym, ap, _∙_}
 use mathlib.Core.Bool.{Bool, true, false, cond}
@@ -14,21 +18,25 @@ use lib.ListN.{length, getD, drop, length-append, drop-of-length-le}
 use lib.Seq.{drop-cons, drop-length}
 use borrow.Author.Tests.{le-ltb, ltb-false}
 use Rattle.refusal.specs.Refused.{Refused, plan}
-use Rattle.network.specs.Links.{Links}
-use Rattle.network.specs.Card.{Network, network, readCard}
+use Rattle.network.specs.Links.{Links, linkedIn}
+use Rattle.network.specs.Card.{Network, network, refused, readCard}
 use Rattle.network.proofs.Main.{card-proper}
+use Rattle.condition.proofs.Wide.{condition-wide}
+use Rattle.condition.proofs.Main as Condition
 use Rattle.plan.specs.Due.{due}
 use Rattle.route.specs.Commands.{width}
 use Rattle.plan.specs.Check.{Progress, reached, stopped, andThen, checkBlocks, checkEnd, Totals, totals, turned, totalsOf, checkOn, checkPlan}
 use Rattle.plan.proofs.Groups.{whole-command}
 use Rattle.rules.specs.Blocks.{Block, encodeBlocks, encodePlan, decodePlan, planCarriages}
 use Rattle.rules.specs.Rules.{InOrder}
-use Rattle.rules.specs.Theorems.{Exact, Decodes, Totalled, Grouped}
+use Rattle.rules.specs.Theorems.{Accepted, Exact, Decodes, Totalled, Grouped, ShowsRoutable, RoutableCondition, ShowsGood, ShowsWide}
 use Rattle.rules.proofs.Order.{order-together}
 use Rattle.rules.proofs.Spans.{Span, span-left, span-right}
 use Rattle.rules.proofs.Bytes.{span-head}
 use Rattle.rules.proofs.Progress.{turned-totals, reached-same, cond-false, due-forward, due-backward, then-forward, cut-backward}
 use Rattle.rules.proofs.Whole.{decode-length, blocks-forward, blocks-backward}
+use Rattle.rules.proofs.Served.{order-routable}
+use Rattle.rules.proofs.Condition as Routes
 
 -- totals
 
@@ -143,3 +151,28 @@ totalled card s n f links e b c h =
 
 pub grouped : Grouped
 grouped card s n f links e a X x k = order-together n f links (decodePlan n f s) (few card s n f links e) ((decodes card s n f links e a) .0) X x k
+
+pub shows-routable : ShowsRoutable
+shows-routable card s n f links e a = order-routable n f links (decodePlan n f s) (few card s n f links e) ((decodes card s n f links e a) .0)
+
+pub routable-condition : RoutableCondition
+routable-condition = Routes.routable-condition
+
+-- a card for which a plan is accepted is read
+accepted-read : (card s : List ℕ) → Accepted card s → (n f : ℕ) × (links : Links) × (readCard card ≡ network n f links)
+unfolding checkPlan checkOn
+accepted-read card s (blocks, carriages, h) = go (readCard card) refl
+  where
+    go : (w : Network) → readCard card ≡ w → (n f : ℕ) × (links : Links) × (readCard card ≡ network n f links)
+    go (network n f links) e = (n, f, links, e)
+    go (refused r) e = turned-totals r blocks carriages (sym (ap (λ (w : Network). checkOn w s) e) ∙ h)
+
+pub shows-good : ShowsGood
+shows-good card s a =
+    let (n, f, links, e) = accepted-read card s a in
+    Condition.exact card n f links e .1 (routable-condition n f links (shows-routable card s n f links e a))
+
+pub shows-wide : ShowsWide
+shows-wide card s n f links e a =
+    let w = condition-wide n f (linkedIn links) (routable-condition n f links (shows-routable card s n f links e a)) (card-proper card n f links e .least) in
+    omega arith

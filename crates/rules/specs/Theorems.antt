@@ -3,20 +3,28 @@
 --     Decodes   the decoded blocks of an accepted plan are the due ones within the rules, and encode to its bytes
 --     Totalled  the totals are those of the decoded plan
 --     Grouped   the blocks of one F stand together, and every cut of V−F is among them
+-- And what acceptance alone shows of a card:
+--     ShowsRoutable      its network is routable
+--     RoutableCondition  a routable network meets Theorem 1's condition; of any number of servers
+--     ShowsGood          the split test on the card says "none"
+--     ShowsWide          n is at least 3f + 1
 use mathlib.Core.Path.{_≡_}
 use mathlib.Core.Logic.{_⊎_, _↔_}
 use mathlib.Core.Bool.{true}
 use mathlib.Core.List.{List, _++_, List·Memᴰ}
-use Prim.Native.Nat.{ℕ, _≤_, _<_, _^_}
+use Prim.Native.Nat.{ℕ, _+_, _*_, _^_, _≤_, _<_}
 use lib.ListN.{length}
 use Rattle.sets.specs.Sets.{minus, within, full, size}
-use Rattle.network.specs.Links.{Links}
+use Rattle.network.specs.Links.{Links, linkedIn}
 use Rattle.network.specs.Card.{network, readCard}
+use Rattle.network.specs.Split.{good, splitTest}
+use Rattle.condition.specs.Condition.{Condition}
 use Rattle.plan.specs.Due.{due}
 use Rattle.plan.specs.Check.{totals, checkPlan}
 use Rattle.rules.specs.Blocks.{Block, encodePlan, decodePlan, planCarriages}
 use Rattle.facts.specs.Lists.{Each}
 use Rattle.rules.specs.Rules.{InOrder, MeetsRules}
+use Rattle.rules.specs.Routable.{Routable}
 
 abbrev pub Accepted : List ℕ → List ℕ → Type 0
 Accepted card s = (blocks carriages : ℕ) × (checkPlan card s ≡ totals blocks carriages)
@@ -53,3 +61,16 @@ abbrev pub Grouped : Type 0
 Grouped =
     (card s : List ℕ) (n f : ℕ) (links : Links) → readCard card ≡ network n f links → Accepted card s
     → (X : ℕ) → X < 2 ^ n → size X ≤ f → Together n X (decodePlan n f s)
+
+abbrev pub ShowsRoutable : Type 0
+ShowsRoutable = (card s : List ℕ) (n f : ℕ) (links : Links) → readCard card ≡ network n f links → Accepted card s → Routable n f links
+
+abbrev pub RoutableCondition : Type 0
+RoutableCondition = (n f : ℕ) (links : Links) → Routable n f links → Condition n f (linkedIn links)
+
+-- nothing is asked of the plan but its acceptance, and nothing of the card
+abbrev pub ShowsGood : Type 0
+ShowsGood = (card s : List ℕ) → Accepted card s → splitTest card ≡ good
+
+abbrev pub ShowsWide : Type 0
+ShowsWide = (card s : List ℕ) (n f : ℕ) (links : Links) → readCard card ≡ network n f links → Accepted card s → 3 * f + 1 ≤ n

@@ -5,13 +5,17 @@
 --     count-none    a count of nothing; count-zero the other way; count-some for a member
 --     count-beyond  servers from n on that are not in the test do not count
 --     count-or      the count of a union and a meet; count-apart of a union of sets that are apart; count-all of all servers
+--     count-without taking a member below n out of a set lowers the count by one; count-past, taking out another leaves it
+--     count-different   members that are told apart are no more than the count
 --     size-count    the size of a set below 2^n is the count of its members below n
 --     size-union, size-within, size-empty, size-none   the laws of sizes
 -- Assumes nothing.
 use mathlib.Core.Path.{_≡_, refl, sym, ap, _∙_}
-use mathlib.Core.Bool.{true, false, _&&_, _||_}
+use mathlib.Core.Bool.{true, false, not, _&&_, _||_}
 use Prim.Native.Nat.{ℕ, zero, suc, _+_, _-_, _^_, _≤_, _<_}
 use native.Mathlib.Omega.{arith}
+use lib.Dec.{eqb}
+use borrow.Author.Tests.{ne-eqb, eqb-true, eqb-false}
 use Rattle.facts.proofs.Bools.{cases, clash, is-false}
 use Rattle.sets.specs.Sets.{Set, In, Out, has, union, meet, within, count, size}
 use Rattle.sets.proofs.Members.{has-union, has-meet, has-empty, has-beyond, within-in, no-member}
@@ -90,6 +94,41 @@ pub count-all : (n : ℕ) (p : Set) → ((i : ℕ) → i < n → In p i) → cou
 unfolding count
 count-all zero p h = refl
 count-all (suc n) p h = let ih = count-all n p (λ i k. h i (omega arith)) in let e = h n (omega arith) in cc
+
+-- X less server s
+abbrev pub without : ℕ → Set → Set
+without s X i = not (eqb i s) && X i
+
+pub count-past : (n s : ℕ) (X : Set) → n ≤ s → count n (without s X) ≡ count n X
+unfolding count
+count-past zero s X h = refl
+count-past (suc n) s X h =
+    let ih = count-past n s X (omega arith) in
+    let e = ne-eqb n s (omega arith) in
+    cases (X n) (λ q. cc) (λ q. cc)
+
+pub count-without : (n s : ℕ) (X : Set) → s < n → In X s → count n X ≡ suc (count n (without s X))
+unfolding count
+count-without zero s X h q = absurd (omega arith)
+count-without (suc n) s X h q =
+    cases (eqb n s)
+    (λ e. let z = eqb-true n s e in let past = count-past n s X (omega arith) in let i : X n ≡ true = rw z q in cc)
+    (λ e. let z = eqb-false n s e in let ih = count-without n s X (omega arith) q in cases (X n) (λ a. cc) (λ a. cc))
+
+-- m different members below n are no more than there are; Q j x says that the j-th of them may be x
+pub count-different : (n m : ℕ) (p : Set) (Q : ℕ → ℕ → Type 0) → ((j : ℕ) → j < m → (x : ℕ) × (x < n) × In p x × Q j x)
+    → ((j k x : ℕ) → j < m → k < m → Q j x → Q k x → j ≡ k) → m ≤ count n p
+count-different n zero p Q h d = omega arith
+count-different n (suc m) p Q h d =
+    let (x, k, e, q) = h m (omega arith) in
+    let c = count-without n x p k e in
+    let ih = count-different n m (without x p) Q (λ j l. still x q j l (h j (omega arith))) (λ j k y a b. d j k y (omega arith) (omega arith)) in
+    omega arith
+  where
+    still : (x : ℕ) → Q m x → (j : ℕ) → j < m → (y : ℕ) × (y < n) × In p y × Q j y → (y : ℕ) × (y < n) × In (without x p) y × Q j y
+    still x q j l (y, k, e, r) =
+        let o = ne-eqb y x (λ z. let w = d j m y (omega arith) (omega arith) r (rw z q) in omega arith) in
+        (y, k, cc, r)
 
 pub size-count : (n s : ℕ) → n ≤ 8 → s < 2 ^ n → size s ≡ count n (has s)
 unfolding size

@@ -1,28 +1,15 @@
--- Counts of the servers from one number on and below another, and of the first so many of a set.
---     count-between   at most as many as there are numbers
+-- Counts of the first so many members of a set, and of those after them.
 --     firstOf, laterOf   the first a members of a set, and those after them; count-first and count-later, at most how many they are
 -- Assumes nothing.
 use mathlib.Core.Path.{_≡_}
 use mathlib.Core.Bool.{not, _&&_, _||_}
-use Prim.Native.Nat.{ℕ, zero, suc, _+_, _-_, _≤_, min}
+use Prim.Native.Nat.{ℕ, zero, suc, _+_, _≤_, min}
 use native.Mathlib.Omega.{arith}
 use lib.Dec.{ltb}
 use borrow.Author.Tests.{ltb-true, ltb-false}
 use Rattle.facts.proofs.Bools.{cases, clash}
 use Rattle.sets.specs.Sets.{Set, In, count}
 use Rattle.sets.proofs.Counts.{count-same, count-apart}
-
-abbrev pub between : ℕ → ℕ → Set
-between lo hi i = not (ltb i lo) && ltb i hi
-
-pub count-between : (n lo hi : ℕ) → count n (between lo hi) ≤ min n hi - lo
-unfolding count
-count-between zero lo hi = omega arith
-count-between (suc n) lo hi =
-    let ih = count-between n lo hi in
-    cases (ltb n lo)
-    (λ x. rw x (omega arith))
-    (λ x. let a = ltb-false n lo x in cases (ltb n hi) (λ y. let b = ltb-true n hi y in rw (x, y) (omega arith)) (λ y. rw (x, y) (omega arith)))
 
 -- the members of K that have fewer than a members before them
 abbrev pub firstOf : ℕ → Set → Set

@@ -4,7 +4,7 @@
 -- Around       the neighbours of a part are the fewest servers that cut it off
 -- Scanned      the scan over the parts
 -- Ruled        the rule's answer, as the code puts it together
--- Counting     counts of servers between two numbers, and of the first so many of a set
+-- Counting     counts of the first so many members of a set, and of the others
 -- Rule         the older rule against Theorem 1's condition
 -- Main         what a user relies on
 mod Returns

@@ -15,6 +15,7 @@ use Rattle.network.specs.Card.{Network, network, refused, readCard}
 use Rattle.network.specs.Proper.{Proper}
 use Rattle.network.proofs.Main.{card-proper}
 use Rattle.condition.specs.Condition.{Condition}
+use Rattle.condition.proofs.Wide.{condition-wide}
 use Rattle.condition.proofs.Main.{exact}
 use Rattle.two_way.specs.Separation.{oneWay, connectivity}
 use Rattle.two_way.specs.Quick.{ruled, serversWanted, awayWanted, olderRule, quickOf, quickTest}
@@ -22,7 +23,7 @@ use Rattle.two_way.specs.Least.{Takes, Least, Agrees}
 use Rattle.two_way.proofs.Returns.{no-one-way, two-way}
 use Rattle.two_way.proofs.Parts.{least-away}
 use Rattle.two_way.proofs.Ruled.{rule-both, rule-servers, rule-away, quick-one-way, quick-ruled}
-use Rattle.two_way.proofs.Rule.{rule-condition, condition-wide, condition-apart}
+use Rattle.two_way.proofs.Rule.{rule-condition, condition-apart}
 
 -- the rule's two numbers, and the condition
 module _ (n f : ℕ) (links : Links) (p : Proper n f links) (back : oneWay n links ≡ false) where

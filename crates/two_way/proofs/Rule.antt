@@ -1,16 +1,15 @@
 -- The older rule and Theorem 1's condition, for links that all have a return.
 --     rule-condition    if n is at least 3f + 1 and each K that separates has 2f + 1 servers or more, the condition holds
---     condition-wide    if the condition holds, n is at least 3f + 1
---     condition-apart   and each K that separates has 2f + 1 servers or more
+--     condition-apart   if the condition holds, each K that separates has 2f + 1 servers or more
 -- Assumes nothing.
-use mathlib.Core.Path.{_≡_, refl, _∙_}
+use mathlib.Core.Path.{_≡_, _∙_}
 use mathlib.Core.Logic.{inl, inr, ⊎-elim}
 use mathlib.Core.Bool.{true, false, not, _&&_, _||_}
-use Prim.Native.Nat.{ℕ, _+_, _-_, _*_, _≤_, _<_, min}
+use Prim.Native.Nat.{ℕ, _+_, _*_, _≤_, _<_}
 use native.Mathlib.Omega.{arith}
 use lib.Dec.{ltb, leb}
-use borrow.Author.Tests.{ltb-true, lt-ltb, le-ltb, leb-true, leb-false}
-use Rattle.facts.proofs.Bools.{cases, clash, and-left, and-right, both, or-cases, not-true}
+use borrow.Author.Tests.{leb-true, leb-false}
+use Rattle.facts.proofs.Bools.{cases, clash, and-left, and-right, or-cases, not-true}
 use Rattle.sets.specs.Sets.{Set, Edges, In, Out, count}
 use Rattle.sets.proofs.Counts.{count-mono, count-apart, count-all}
 use Rattle.network.specs.Split.{someBelow}
@@ -18,7 +17,7 @@ use Rattle.network.proofs.Neighbours.{some-at, none-at, none-of}
 use Rattle.condition.specs.Condition.{neighbour, Arrow, joined, Partition, Some, Condition}
 use Rattle.condition.proofs.Theorem.{arrow-cases}
 use Rattle.two_way.specs.Least.{Separates}
-use Rattle.two_way.proofs.Counting.{between, count-between, firstOf, laterOf, count-first, count-later, first-or-later, first-not-later}
+use Rattle.two_way.proofs.Counting.{firstOf, laterOf, count-first, count-later, first-or-later, first-not-later}
 
 -- a server that is no neighbour of B has no link to a server of B
 not-neighbour : (n : ℕ) (E : Edges) (B : Set) (u v : ℕ) → v < n → neighbour n E B u ≡ false → In B v → Out (E u) v
@@ -124,50 +123,6 @@ module _ (n f : ℕ) (E : Edges) (back : (u v : ℕ) → E u v ≡ E v u) where
 
 -- From the condition to the rule.
 module _ (n f : ℕ) (E : Edges) (holds : Condition n f E) where
-  -- an arrow from A takes more than f servers of A
-  no-arrow : (A B : Set) → count n A ≤ f → Arrow n f E A B → ⊥
-  no-arrow A B few w = let m = count-mono n (λ (i : ℕ). A i && neighbour n E B i) A (λ i k. and-left (A i) (neighbour n E B i)) in omega arith
-
-  -- three sets of at most f servers, two of them not empty, would be a split that breaks the condition
-  module _ (x y : ℕ) (some : 0 < x) (more : x < y) (inside : y ≤ n) (x-few : x ≤ f) (y-few : y ≤ x + f) (n-few : n ≤ y + f) where
-    abbrev nobody : Set
-    nobody i = false
-
-    thirds : Partition n (between y n) (between 0 x) nobody (between x y)
-    thirds =
-        record {
-          whole = λ i k. let t = lt-ltb i n k in let z = le-ltb i 0 (omega arith) in cases (ltb i x) (λ a. cases (ltb i y) (λ b. cc) (λ b. cc)) (λ a. cases (ltb i y) (λ b. cc) (λ b. cc));
-          FL = λ i k a b. let p = ltb-true i x (and-right (not (ltb i 0)) (ltb i x) b) in clash (ltb i y) (lt-ltb i y (omega arith)) (not-true (ltb i y) (and-left (not (ltb i y)) (ltb i n) a));
-          FC = λ i k a b. clash false b refl;
-          FR = λ i k a b. clash (ltb i y) (and-right (not (ltb i x)) (ltb i y) b) (not-true (ltb i y) (and-left (not (ltb i y)) (ltb i n) a));
-          LC = λ i k a b. clash false b refl;
-          LR = λ i k a b. clash (ltb i x) (and-right (not (ltb i 0)) (ltb i x) a) (not-true (ltb i x) (and-left (not (ltb i x)) (ltb i y) b));
-          CR = λ i k a b. clash false a refl;
-        }
-
-    side-few-of : (p : Set) → count n p ≤ f → count n (joined p nobody) ≤ f
-    side-few-of p h = let m = count-mono n (joined p nobody) p (λ i k e. ⊎-elim (λ z. z) (λ z. clash false z refl) (or-cases (p i) false e)) in omega arith
-
-    thirds-break : ⊥
-    thirds-break =
-        let a = count-between n y n in
-        let b = count-between n 0 x in
-        let c = count-between n x y in
-        ⊎-elim
-        (no-arrow (joined (between 0 x) nobody) (between x y) (side-few-of (between 0 x) (omega arith)))
-        (no-arrow (joined (between x y) nobody) (between 0 x) (side-few-of (between x y) (omega arith)))
-        (holds (between y n) (between 0 x) nobody (between x y) thirds
-        (0, omega arith, both (not (ltb 0 0)) (ltb 0 x) refl (lt-ltb 0 x some))
-        (x, omega arith, (let z = le-ltb x x (omega arith) in let t = lt-ltb x y more in cc))
-        (omega arith))
-
-  pub condition-wide : 2 ≤ n → 3 * f + 1 ≤ n
-  condition-wide two =
-      cases (leb (3 * f + 1) n)
-      (λ e. leb-true (3 * f + 1) n e)
-      (λ e. let m = leb-false (3 * f + 1) n e in
-      absurd (thirds-break (min f (n - 1)) (min (min f (n - 1) + f) n) (omega arith) (omega arith) (omega arith) (omega arith) (omega arith) (omega arith)))
-
   -- a K of at most 2f servers is two sets of at most f
   module _ (K L R : Set) (w : Separates n E K L R) (small : count n K ≤ 2 * f) where
     abbrev F : Set

@@ -1,7 +1,9 @@
--- `agreement::agreement_check_plan` meets its contract. The words are those of the answer that the plan check ensures. Assumes nothing.
+-- `agreement::agreement_check_plan` meets its contract. The words are those of the answer that the plan check ensures, with what an accepted plan says of
+-- the card. Assumes nothing.
 use mathlib.Core.Path.{sym, ap, _∙_}
 use Rattle.plan.specs.Answers.{checkedOf}
 use Rattle.agreement.specs.Words.{planWords}
+use Rattle.agreement.proofs.Rows.{plan-words}
 use borrow.Author.Needs.{needs}
 use Rattle.agreement.proofs.agreement_check_plan.Statement.{statement}
 use Rattle.agreement.proofs.agreement_check_plan.Tie as tie
@@ -27,10 +29,10 @@ refused-words-requires : tie.Need-refused-words-requires
 refused-words-requires c κs = search needs
 
 returns : tie.Need-returns
-returns c = c .total-words .ensures ∙ ap planWords (sym (ap checkedOf (c .before .before .checked .given .1)) ∙ c .before .before .before .before .check-plan .ensures)
+returns c = plan-words _ _ _ (c .total-words .ensures ∙ ap planWords (sym (ap checkedOf (c .before .before .checked .given .1)) ∙ c .before .before .before .before .check-plan .ensures))
 
 returns-2 : tie.Need-returns-2
-returns-2 c = c .refused-words .ensures ∙ ap planWords (sym (ap checkedOf (c .before .before .checked2 .given .1)) ∙ c .before .before .before .before .check-plan .ensures)
+returns-2 c = plan-words _ _ _ (c .refused-words .ensures ∙ ap planWords (sym (ap checkedOf (c .before .before .checked2 .given .1)) ∙ c .before .before .before .before .check-plan .ensures))
 
 pub agreement-check-plan-spec : {M : Type 1} → statement M
 agreement-check-plan-spec =
