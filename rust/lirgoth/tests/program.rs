@@ -342,6 +342,15 @@ fn the_example_sites_in_words() {
             expected.expect("a stored load"),
             "{site}"
         );
+        // Nothing is said of a plan that is not there.
+        if site != "two-regions" {
+            let expected = fs::read_to_string(format!("{folder}/expected/check.txt"));
+            assert_eq!(
+                out(&["check", &folder], status),
+                expected.expect("a stored check"),
+                "{site}"
+            );
+        }
         let expected = fs::read_to_string(format!("{folder}/expected/picture.svg"));
         let status = if site == "two-regions" {
             REFUSED
