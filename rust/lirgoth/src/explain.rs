@@ -5,7 +5,7 @@ use crate::apart::apart;
 use crate::names::Names;
 use crate::refused;
 use crate::site::{Run, Site, Unreadable};
-use crate::words::{at_most, bit, can_agree, counted, hearing, taking_away, wanted, SO};
+use crate::words::{accepted, at_most, bit, can_agree, counted, hearing, taking_away, wanted, SO};
 use agreement::{Network, Quick, Split};
 
 /// Answers the three questions in turn, as far as the site's files go.
@@ -44,11 +44,7 @@ pub fn explain(site: &Site) -> Result<Answer, Unreadable> {
         Err(missing) => return Ok(answer.unreadable(missing)),
     };
     match agreement::check_plan(&card, &plan) {
-        Ok(totals) => answer.line(&format!(
-            "plan accepted: {} and {}",
-            counted(totals.blocks, "block"),
-            counted(totals.carriages, "carriage")
-        )),
+        Ok(totals) => answer.line(&accepted(totals)),
         Err(refusal) => {
             answer.line(&refused::plan(refusal, &network, &names, &plan));
             return Ok(answer.refused());

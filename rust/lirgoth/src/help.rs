@@ -8,6 +8,8 @@ lirgoth: a site's network, its plan and its drills, for the installer
   lirgoth print SITE [--hex]                 the card, clean: each link once, in order
   lirgoth explain SITE                       can the offices agree, is the plan accepted,
                                              what does each office show
+  lirgoth check SITE                         is the plan accepted: if so, the offices can
+                                             agree, and no other check is needed
   lirgoth load SITE                          how many routes each office relays
   lirgoth drill SITE --inputs 11010          a run without a run.in
   lirgoth drill SITE --every                 every set of failing offices, every kind of lie
@@ -75,6 +77,20 @@ On a two-way site, where each link has a return, it also says what the older rul
 f may fail, there must be at least 3f+1 offices, and at least 2f+1 of them must be taken
 away before the rest falls apart. Both numbers are told, with the offices that leave the
 rest apart. The rule holds exactly where there is no bad split.
+";
+
+pub const CHECK: &str = "\
+lirgoth check SITE
+
+Says whether SITE/network.plan is accepted for SITE/network.card, and makes no other test. An
+accepted plan shows that the network has no bad split: this is proved, for every card and
+every plan. So the offices can agree, and explain need not be asked. Where f may fail, and f
+is at least 1, it shows too that there are at least 3f+1 offices.
+
+A refusal comes with its number, its place and what stands there. By itself a refused plan
+says nothing about the network: it may have a bad split, or the plan alone may be wrong, and
+explain tells which. A file that is missing is named on standard error, and the status is
+then 2.
 ";
 
 pub const LOAD: &str = "\

@@ -1,5 +1,5 @@
 //! The installer's program: a site's chart, card and picture, its network and plan in
-//! words, the load on its relays, and drills.
+//! words, the plan check alone, the load on its relays, and drills.
 //!
 //! ```text
 //! cargo run --release -p lirgoth -- --help
@@ -11,6 +11,7 @@ mod answer;
 mod apart;
 mod args;
 mod chart;
+mod check;
 mod drill;
 mod explain;
 mod help;

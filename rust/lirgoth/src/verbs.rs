@@ -5,6 +5,7 @@ use crate::answer::{Answer, REFUSED};
 use crate::apart::apart;
 use crate::args::{Args, Known};
 use crate::chart::{self, Chart};
+use crate::check;
 use crate::drill::{self, all_inputs, Drilled};
 use crate::explain;
 use crate::help;
@@ -30,7 +31,7 @@ pub fn find(name: &str) -> Option<&'static Verb> {
     VERBS.iter().find(|verb| verb.name == name)
 }
 
-const VERBS: [Verb; 10] = [
+const VERBS: [Verb; 11] = [
     Verb {
         name: "card",
         help: help::CARD,
@@ -54,6 +55,12 @@ const VERBS: [Verb; 10] = [
         help: help::EXPLAIN,
         known: &[],
         run: |args| on_site(args, |site| explain::explain(&site)),
+    },
+    Verb {
+        name: "check",
+        help: help::CHECK,
+        known: &[],
+        run: |args| on_site(args, |site| check::check(&site)),
     },
     Verb {
         name: "load",

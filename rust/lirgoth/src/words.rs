@@ -2,7 +2,7 @@
 
 use crate::apart::Apart;
 use crate::names::Names;
-use agreement::{Network, ServerSet, Split};
+use agreement::{Network, ServerSet, Split, Totals};
 
 /// `at most 1 may fail`.
 pub fn at_most(f: u8) -> String {
@@ -19,6 +19,15 @@ pub fn can_agree(network: &Network) -> &'static str {
         1 => "the offices can agree, whichever one of them fails",
         _ => "the offices can agree, whichever two of them fail",
     }
+}
+
+/// What an accepted plan has.
+pub fn accepted(totals: Totals) -> String {
+    format!(
+        "plan accepted: {} and {}",
+        counted(totals.blocks, "block"),
+        counted(totals.carriages, "carriage")
+    )
 }
 
 /// Why `side`, the L or the R of a bad split, has nothing from outside that it could rely on.

@@ -342,6 +342,15 @@ fn the_example_sites_in_words() {
             expected.expect("a stored load"),
             "{site}"
         );
+        // Nothing is said of a plan that is not there.
+        if site != "two-regions" {
+            let expected = fs::read_to_string(format!("{folder}/expected/check.txt"));
+            assert_eq!(
+                out(&["check", &folder], status),
+                expected.expect("a stored check"),
+                "{site}"
+            );
+        }
         let expected = fs::read_to_string(format!("{folder}/expected/picture.svg"));
         let status = if site == "two-regions" {
             REFUSED
@@ -459,6 +468,158 @@ fn a_site_without_an_accepted_plan_has_no_load() {
     let (printed, missing) = said(&["load", &own], UNUSABLE);
     let expected = format!("lirgoth: {own}/network.plan is missing\n");
     assert_eq!((printed, missing), (String::new(), expected));
+}
+
+/// What `check` adds to a refused plan.
+const SAYS_NOTHING: &str = "by itself a refused plan says nothing about the network, \
+                            which `lirgoth explain SITE` tests\n";
+
+#[test]
+fn an_accepted_plan_is_enough_to_show_a_good_network() {
+    // No run is wanted.
+    for (site, plan, fails) in [
+        (
+            "dry-bulk",
+            "50 blocks and 464 carriages, for 5 offices (at least 4 wanted) of which at most 1 may fail",
+            "whichever one of them fails",
+        ),
+        (
+            "small",
+            "1 block and 1 carriage, for 2 offices of which none may fail",
+            "as long as none of them fails",
+        ),
+    ] {
+        let folder = copy_of(site);
+        let own = folder.0.display().to_string();
+        let expected = format!(
+            "plan accepted: {plan}\n\
+             no bad split: the offices can agree, {fails}; \
+             the accepted plan shows this, and no other check is needed\n"
+        );
+        let checked = said(&["check", &own], ANSWERED);
+        assert_eq!(checked, (expected, String::new()), "{site}");
+        // Where `explain` says the same it has the same words.
+        let explained = out(&["explain", &own], UNUSABLE);
+        for line in checked.0.lines() {
+            let same = |told: &str| line.starts_with(told);
+            assert!(explained.lines().any(same), "{line}: {explained}");
+        }
+    }
+}
+
+#[test]
+fn an_accepted_plan_of_any_size_shows_a_good_network() {
+    let mut rng = Rng::new(8);
+    for (n, f) in [(2, 0), (8, 0), (4, 1), (7, 1), (7, 2), (8, 2)] {
+        let card = generate::good_card(&mut rng, n, f).expect("n is over 3f");
+        let plan = generate::plan(&mut rng, &card).expect("a good network has a plan");
+        let site = Folder::with(&[("network.card", &card), ("network.plan", &plan)]);
+        let checked = out(&["check", &site.shown("")], ANSWERED);
+        let explained = out(&["explain", &site.shown("")], UNUSABLE);
+        let good = explained
+            .lines()
+            .find(|line| line.starts_with("no bad split: "));
+        let shown = checked.lines().last().expect("what it shows");
+        assert!(
+            shown.starts_with(good.expect("a good network")),
+            "{checked}"
+        );
+        assert!(checked.contains(&format!(", for {n} offices")), "{checked}");
+        assert_eq!(checked.lines().count(), 2, "{checked}");
+    }
+}
+
+#[test]
+fn a_refused_plan_says_nothing_about_the_network() {
+    // On a good network it is told as `explain` tells it.
+    let site = copy_of("tanker");
+    let own = site.0.display().to_string();
+    let explained = out(&["explain", &own], REFUSED);
+    assert!(explained.contains("\nno bad split: "), "{explained}");
+    let refused = explained.lines().last().expect("a refusal in words");
+    assert!(refused.starts_with("refused plan 10 at byte "), "{refused}");
+    let checked = said(&["check", &own], REFUSED);
+    let expected = format!("{refused}\n{SAYS_NOTHING}");
+    assert_eq!(checked, (expected, String::new()));
+
+    // On one with a bad split too, whatever the plan: `explain` tells of the split instead.
+    let card = fs::read(example("two-regions") + "/network.card").expect("it is there");
+    let begun = generate::broken_off_plan(&mut Rng::new(8), &card);
+    let other = fs::read(example("shore") + "/network.plan").expect("it is there");
+    for plan in [&begun[..], &other, &[]] {
+        let site = Folder::with(&[("network.card", &card), ("network.plan", plan)]);
+        let checked = out(&["check", &site.shown("")], REFUSED);
+        let (refused, after) = checked.split_once('\n').expect("two lines");
+        assert!(refused.starts_with("refused plan "), "{checked}");
+        assert_eq!(after, SAYS_NOTHING);
+        let explained = out(&["explain", &site.shown("")], REFUSED);
+        assert!(explained.contains("\nbad split ("), "{explained}");
+    }
+}
+
+#[test]
+fn a_refused_plan_has_the_names_of_the_chart() {
+    let file = |name: &str| fs::read(example("ship") + "/" + name).expect("the example is there");
+    let mut plan = file("network.plan");
+    // The first route leads to no office.
+    plan[6] = 7;
+    let site = Folder::with(&[
+        ("network.card", &file("network.card")),
+        ("network.plan", &plan),
+        ("network.chart", &file("network.chart")),
+    ]);
+    let own = site.0.display().to_string();
+    let explained = out(&["explain", &own], REFUSED);
+    let refused = explained.lines().last().expect("a refusal in words");
+    assert!(refused.contains(" (Singapore)"), "{refused}");
+    let checked = said(&["check", &own], REFUSED);
+    let expected = format!("{refused}\n{SAYS_NOTHING}");
+    assert_eq!(checked, (expected, String::new()));
+
+    // A chart of another network is told where an office could be named, and else not looked at.
+    fs::write(site.path("network.chart"), CHART).expect("the folder can be written to");
+    let (_, note) = said(&["check", &own], REFUSED);
+    assert!(note.contains("is of another network"), "{note}");
+    fs::write(site.path("network.plan"), file("network.plan")).expect("it can be written");
+    let (_, note) = said(&["check", &own], ANSWERED);
+    assert_eq!(note, "");
+}
+
+#[test]
+fn a_site_without_card_or_plan_is_not_checked() {
+    let site = copy_of("dry-bulk");
+    let own = site.0.display().to_string();
+    let not_checked = |name: &str, why: &str| {
+        let expected = format!("lirgoth: {own}/{name} {why}\n");
+        assert_eq!(said(&["check", &own], UNUSABLE), (String::new(), expected));
+    };
+    fs::remove_file(site.path("network.plan")).expect("it is there");
+    not_checked("network.plan", "is missing");
+    fs::create_dir(site.path("network.plan")).expect("the folder can be written to");
+    not_checked("network.plan", "is a folder, and a file is wanted");
+
+    // Of a refused card nothing but its refusal is told, with or without a plan.
+    fs::write(site.path("network.card"), [1, 9, 0, 3]).expect("it can be written");
+    let refused = "refused card 5 at byte 0: 9 offices, and there can be 2 to 8\n".to_string();
+    let expected = (refused, String::new());
+    assert_eq!(said(&["check", &own], REFUSED), expected);
+    fs::remove_dir(site.path("network.plan")).expect("it is there");
+    assert_eq!(said(&["check", &own], REFUSED), expected);
+    fs::write(site.path("network.plan"), [0x15]).expect("the folder can be written to");
+    assert_eq!(said(&["check", &own], REFUSED), expected);
+
+    fs::remove_file(site.path("network.card")).expect("it is there");
+    not_checked("network.card", "is missing");
+}
+
+#[test]
+fn the_help_of_check_says_why_it_is_enough() {
+    let help = out(&["check", "--help"], ANSWERED);
+    assert!(
+        help.contains("accepted plan shows that the network has no bad split"),
+        "{help}"
+    );
+    assert!(help.contains("at least 3f+1 offices"), "{help}");
 }
 
 #[test]
@@ -862,7 +1023,7 @@ fn a_refused_call_is_told_in_words() {
 fn files_that_cannot_be_read_are_named() {
     let folder = Folder::new();
     let own = folder.0.display().to_string();
-    for verb in ["explain", "chart", "print", "load", "picture"] {
+    for verb in ["explain", "check", "chart", "print", "load", "picture"] {
         let (_, error) = said(&[verb, &own], UNUSABLE);
         assert_eq!(error, format!("lirgoth: {own}/network.card is missing\n"));
         let nowhere = folder.shown("nowhere");
@@ -892,6 +1053,7 @@ fn a_refused_card_is_told_by_every_verb() {
     let words = "refused card 5 at byte 0: 9 offices, and there can be 2 to 8";
     for args in [
         &["explain", &own][..],
+        &["check", &own],
         &["chart", &own],
         &["print", &own],
         &["load", &own],
@@ -921,7 +1083,7 @@ fn a_chart_of_another_network_gives_no_names() {
 fn help_and_bad_usage() {
     let help = out(&["--help"], ANSWERED);
     for verb in [
-        "card", "chart", "print", "explain", "load", "drill", "picture",
+        "card", "chart", "print", "explain", "check", "load", "drill", "picture",
     ] {
         assert!(help.contains(&format!("  lirgoth {verb} ")), "{verb}");
         let own = out(&[verb, "--help"], ANSWERED);
