@@ -283,11 +283,16 @@ pub fn quick_test(card: &[u8]) -> Result<Quick, Refusal> {
 /// route in them keeps its rules; else the refusal is the one ground and place that
 /// a check from the front meets first.
 ///
+/// An accepted plan shows a good network: if some plan is accepted for `card`, the
+/// [`split_test`] on `card` says none, and n is at least 3f+1. So one check is enough.
+/// A refused plan says nothing about the network.
+///
 /// ```
 /// let card = [0x01, 2, 0, 0x02, 0, 1, 0x03];
 /// let plan = [0x10, 0, 1, 1, 0x13, 0, 1, 255, 255, 255, 255, 255, 255, 0x15];
 /// let totals = agreement::check_plan(&card, &plan)?;
 /// assert_eq!((totals.blocks, totals.carriages), (1, 1));
+/// assert_eq!(agreement::split_test(&card)?, None);
 /// # Ok::<(), agreement::Refusal>(())
 /// ```
 pub fn check_plan(card: &[u8], plan: &[u8]) -> Result<Totals, Refusal> {

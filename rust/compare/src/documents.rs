@@ -17,6 +17,7 @@ mod clean;
 mod commands;
 mod examples;
 mod formulas;
+mod good;
 mod grounds;
 mod header;
 mod held;
@@ -94,6 +95,8 @@ pub const BLOCKS: &[Check] = &[blocks::counted, blocks::ordered, blocks::least_s
 pub const LENGTHS: &[Check] = &[lengths::stated, clean::stated];
 /// The small cases.
 pub const CASES: &[Check] = &[cases::stated, cases::proved, sets::split, quick::stated];
+/// What an accepted plan shows.
+pub const GOOD: &[Check] = &[good::stated];
 /// What a run does.
 pub const RUNS: &[Check] = &[steps::stated, runs::stated];
 /// The load on each relay.
@@ -108,7 +111,7 @@ pub const PHRASES: &[Check] = &[phrases::stated, formulas::everywhere, formulas:
 /// All of them, those that take longest last.
 fn checks() -> Vec<Check> {
     [
-        PHRASES, LIMITS, BYTES, BLOCKS, LENGTHS, CASES, RUNS, LOAD, OWN_PART, REFUSALS, NAMES,
+        PHRASES, LIMITS, BYTES, BLOCKS, LENGTHS, CASES, GOOD, RUNS, LOAD, OWN_PART, REFUSALS, NAMES,
         WORDS, SITE, EXAMPLES,
     ]
     .concat()

@@ -63,6 +63,11 @@ fn small_cases_are_answered_as_stated() {
 }
 
 #[test]
+fn an_accepted_plan_shows_what_is_stated() {
+    hold(documents::GOOD);
+}
+
+#[test]
 fn runs_go_as_stated() {
     documents::library_takes_the_steps();
     hold(documents::RUNS);

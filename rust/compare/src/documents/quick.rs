@@ -53,7 +53,7 @@ fn fewest_away(f: u8) -> u8 {
 }
 
 /// `3f+1`, from what is asked for at f 1 and at f 2.
-fn formula(asked: fn(u8) -> u8) -> String {
+pub fn formula(asked: fn(u8) -> u8) -> String {
     let times = asked(2) - asked(1);
     format!("{times}f+{}", asked(1) - times)
 }
