@@ -12,11 +12,12 @@
  * It also holds each answer to what the header promises: no row of a card has a server that is not
  * there or its own, a refused card's are empty, a printed card has the links of its rows in order, is
  * read as the same rows and stays as it is when printed again, the quick test answers exactly the cards
- * whose links all have a return, by its numbers and as the split test does, the load is refused as the
- * plan check refuses, and else adds up to the relaying places of the plan's bytes, no lent byte past what is
- * written is changed, a refused call changes none, the bits of the servers that are not faulty are equal
- * and some such server's input, and a server's start, asks and commits refuse what they should and else
- * lead from kind to kind, with no value sent but its own.
+ * whose links all have a return, by its numbers and as the split test does, a card with an accepted plan
+ * has no bad split and servers enough, the load is refused as the plan check refuses, and else adds up to
+ * the relaying places of the plan's bytes, no lent byte past what is written is changed, a refused call
+ * changes none, the bits of the servers that are not faulty are equal and some such server's input, and a
+ * server's start, asks and commits refuse what they should and else lead from kind to kind, with no value
+ * sent but its own.
  */
 #include "agreement.h"
 
@@ -260,6 +261,19 @@ static void hold_quick(const uint64_t answer[4], const uint64_t network[12], con
         fail("the older rule does not follow from its numbers");
     if (answer[1] != (split[0] == AGREEMENT_ANSWERED))
         fail("quick test and split test do not agree");
+}
+
+/* The plan check of a card that was read, and split, with these answers: an accepted plan shows a good
+   network. */
+static void hold_plan(const uint64_t answer[4], const uint64_t network[12], const uint64_t split[5])
+{
+    static const uint64_t none[5];
+    if (answer[0] != AGREEMENT_ANSWERED)
+        return;
+    if (memcmp(split, none, sizeof none) != 0)
+        fail("a plan is accepted for a card with a bad split");
+    if (network[1] < 3 * network[2] + 1)
+        fail("a plan is accepted for too few servers");
 }
 
 /* The relaying places of an accepted plan: for each route, its bytes before the fill less two. */
@@ -511,6 +525,7 @@ static int call_all(struct files files)
     two_way += quick[0] == AGREEMENT_ANSWERED;
     agreement_check_plan(card, files.card.length, plan, files.plan.length, checked);
     fresh |= is_new(checked, 2);
+    hold_plan(checked, network, split);
     agreement_load(card, files.card.length, plan, files.plan.length, load);
     fresh |= is_new(load, 6);
     fresh |= is_new(load + 4, 7);
