@@ -14,6 +14,7 @@ mod draft;
 mod plans;
 mod rng;
 mod routes;
+mod spoilt;
 mod states;
 mod twins;
 mod two_way;
@@ -28,6 +29,7 @@ pub use damage::{damaged_plan, Damage, DAMAGES};
 pub use draft::places;
 pub use plans::{broken_off_plan, plan, plan_like_bytes};
 pub use rng::Rng;
+pub use spoilt::spoilt_card;
 pub use states::{arrived, own_input, server, state};
 pub use twins::{with_twins, MOST_LINKS};
 pub use two_way::{
