@@ -11,6 +11,8 @@ mod cards;
 mod carriages;
 mod damage;
 mod draft;
+mod makeshifts;
+mod near;
 mod plans;
 mod rng;
 mod routes;
@@ -27,6 +29,8 @@ pub use cards::{
 pub use carriages::{carriages, Carriage};
 pub use damage::{damaged_plan, Damage, DAMAGES};
 pub use draft::places;
+pub use makeshifts::Makeshift;
+pub use near::{near_plans, Gap, NearPlan};
 pub use plans::{broken_off_plan, plan, plan_like_bytes};
 pub use rng::Rng;
 pub use spoilt::spoilt_card;
