@@ -106,6 +106,12 @@ impl Makeshift {
         }
     }
 
+    /// Whether a near plan may be refused for it: it never is for an N, see
+    /// [`near_plans`](crate::near_plans).
+    pub fn may_come_first(self) -> bool {
+        self.due() != Due::Neighbours
+    }
+
     /// The refusals that a plan meets whose first fault this is. Where something is left out,
     /// it goes by what stands there next.
     pub fn meant(self) -> &'static [u8] {
@@ -118,7 +124,7 @@ impl Makeshift {
             }
             NeighboursLeftOut => &[7, 11],
             QuorumEmpty | QuorumOutside => &[8],
-            QuorumOfOthers => &[7, 9, 10, 11],
+            QuorumOfOthers => &[7, 9, 10],
             BlockLeftOut | OtherCut => &[7],
         }
     }

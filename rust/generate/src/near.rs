@@ -665,9 +665,9 @@ mod tests {
             println!("{:<32} {met:>5} {first:>5} {alone:>5}", way.name());
             assert!(met >= 50, "{} is seldom", way.name());
             // Where an N cannot be had, an earlier block cannot either.
-            let often_enough = match way.due() {
-                Due::Neighbours => first == 0,
-                _ => first >= 20,
+            let often_enough = match way.may_come_first() {
+                true => first >= 20,
+                false => first == 0,
             };
             assert!(often_enough, "{} comes first {first} times", way.name());
             // Where S is not right, routes are not right either.
