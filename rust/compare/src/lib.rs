@@ -9,6 +9,11 @@
 //! decide one bit, and it is the input of one of them. This is looked at in every
 //! answered call, and [`runs::search`] tries hard to make it fail.
 //!
+//! Of a plan that is accepted, in any of these comparisons, the network has to be good: the
+//! library's split test says none and there are at least 3f+1 servers. [`shows`] looks from
+//! the other side, for a network with a bad split and a plan that is accepted for it all the
+//! same.
+//!
 //! Of a load, the counts have to add up to the relaying places of the plan's bytes, and the
 //! plan check has to refuse the same plans.
 //!
@@ -41,6 +46,7 @@ pub mod quicks;
 pub mod rehearsals;
 pub mod runs;
 pub mod servers;
+pub mod shows;
 mod text;
 
 use planned::planned;

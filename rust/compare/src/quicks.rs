@@ -29,3 +29,5 @@ pub use loops::{
     networks_of_every_density, networks_without_one_return, random_cards, truncations,
 };
 pub use tally::Tally;
+
+pub(crate) use given::QUICKS;

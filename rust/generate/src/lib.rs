@@ -11,9 +11,12 @@ mod cards;
 mod carriages;
 mod damage;
 mod draft;
+mod makeshifts;
+mod near;
 mod plans;
 mod rng;
 mod routes;
+mod spoilt;
 mod states;
 mod twins;
 mod two_way;
@@ -26,8 +29,11 @@ pub use cards::{
 pub use carriages::{carriages, Carriage};
 pub use damage::{damaged_plan, Damage, DAMAGES};
 pub use draft::places;
+pub use makeshifts::Makeshift;
+pub use near::{near_plans, Gap, NearPlan};
 pub use plans::{broken_off_plan, plan, plan_like_bytes};
 pub use rng::Rng;
+pub use spoilt::spoilt_card;
 pub use states::{arrived, own_input, server, state};
 pub use twins::{with_twins, MOST_LINKS};
 pub use two_way::{

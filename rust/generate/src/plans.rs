@@ -97,7 +97,7 @@ pub(crate) fn singleton(server: u8) -> u8 {
 /// Which of the pairs of A and S a plan would rather have. One taste goes for a
 /// whole plan, so that the shortest and the longest plans are met too.
 #[derive(Debug, Clone, Copy, PartialEq, Eq)]
-enum Taste {
+pub(crate) enum Taste {
     Any,
     SmallS,
     LargeS,
@@ -106,7 +106,7 @@ enum Taste {
 }
 
 impl Taste {
-    fn draw(rng: &mut Rng) -> Taste {
+    pub fn draw(rng: &mut Rng) -> Taste {
         match rng.below(7) {
             0 => Taste::SmallS,
             1 => Taste::LargeS,
@@ -132,22 +132,22 @@ impl Taste {
 }
 
 /// Makes the blocks of one fault set.
-struct Planner<'a> {
-    network: &'a Network,
-    fault_set: u8,
+pub(crate) struct Planner<'a> {
+    pub network: &'a Network,
+    pub fault_set: u8,
     /// V - F.
-    outside_f: u8,
+    pub outside_f: u8,
     /// f+1.
-    quorum: usize,
-    taste: Taste,
+    pub quorum: usize,
+    pub taste: Taste,
     /// For each server the servers that it reaches within V - F, itself included.
-    reached: [u8; 8],
+    pub reached: [u8; 8],
     /// Whether f+1 disjoint routes lead from a set to a server, as far as known.
     supplied: Vec<[Option<bool>; 8]>,
 }
 
 impl<'a> Planner<'a> {
-    fn new(network: &'a Network, fault_set: u8, taste: Taste) -> Planner<'a> {
+    pub fn new(network: &'a Network, fault_set: u8, taste: Taste) -> Planner<'a> {
         let outside_f = servers_of(network) & !fault_set;
         Planner {
             network,
@@ -162,14 +162,19 @@ impl<'a> Planner<'a> {
 
     /// One block for each way of cutting V - F, in the order of the plan.
     fn blocks(&mut self, rng: &mut Rng, plan: &mut Vec<u8>) -> Option<()> {
-        let lowest = self.outside_f & self.outside_f.wrapping_neg();
-        for part in 1..self.outside_f {
-            let within = part & !self.outside_f == 0;
-            if within && part & lowest != 0 {
-                self.block(rng, part, plan)?;
-            }
+        for part in self.parts() {
+            self.block(rng, part, plan)?;
         }
         Some(())
+    }
+
+    /// For each way of cutting V - F, in the order of the plan, the part that holds its
+    /// lowest server.
+    pub fn parts(&self) -> impl Iterator<Item = u8> {
+        let outside_f = self.outside_f;
+        let lowest = outside_f & outside_f.wrapping_neg();
+        let within = (1..outside_f).filter(move |part| part & !outside_f == 0);
+        within.filter(move |part| part & lowest != 0)
     }
 
     fn block(&mut self, rng: &mut Rng, part: u8, plan: &mut Vec<u8>) -> Option<()> {
@@ -197,13 +202,19 @@ impl<'a> Planner<'a> {
 
     /// A random A and S for which all routes of the block can be had.
     fn choose(&mut self, rng: &mut Rng, part: u8) -> Option<(u8, u8)> {
+        let mut pairs = self.pairs(rng, part).into_iter();
+        pairs.find(|&(a, s)| self.serves(rng, a, s))
+    }
+
+    /// Every A and S for the cut with this part, those to the plan's liking first.
+    pub fn pairs(&self, rng: &mut Rng, part: u8) -> Vec<(u8, u8)> {
         let mut pairs = Vec::new();
         for a in [part, self.outside_f & !part] {
             let sets = (1..=self.outside_f).filter(|s| s & !self.outside_f == 0);
             pairs.extend(sets.map(|s| (a, s)));
         }
         self.taste.order(rng, &mut pairs);
-        pairs.into_iter().find(|&(a, s)| self.serves(rng, a, s))
+        pairs
     }
 
     fn serves(&mut self, rng: &mut Rng, a: u8, s: u8) -> bool {
@@ -224,7 +235,7 @@ impl<'a> Planner<'a> {
         answer
     }
 
-    fn demand(&self, sources: u8, receiver: u8, count: usize) -> Demand {
+    pub fn demand(&self, sources: u8, receiver: u8, count: usize) -> Demand {
         Demand {
             sources,
             receiver,
@@ -249,7 +260,7 @@ impl<'a> Planner<'a> {
     }
 
     /// f+1 random servers of V - F with a link to `k`.
-    fn neighbours(&self, rng: &mut Rng, k: u8) -> Option<u8> {
+    pub fn neighbours(&self, rng: &mut Rng, k: u8) -> Option<u8> {
         let linked = |&u: &u8| self.network.links[usize::from(u)][usize::from(k)];
         let mut eligible: Vec<u8> = members(self.outside_f).filter(linked).collect();
         rng.shuffle(&mut eligible);

@@ -44,15 +44,14 @@ pub(crate) fn disjoint_routes(
     if (demand.sources.count_ones() as usize) < demand.count {
         return None;
     }
-    let mut flow = Flow::new(network, demand);
-    for _ in 0..demand.count {
-        if !flow.augment(rng) {
-            return None;
-        }
-    }
-    let mut routes = flow.routes();
-    rng.shuffle(&mut routes);
-    Some(routes)
+    let (flow, found) = Flow::filled(rng, network, demand);
+    (found == demand.count).then(|| flow.shuffled_routes(rng))
+}
+
+/// As [`disjoint_routes`], but where the network does not have so many, as many as it has.
+pub(crate) fn most_routes(rng: &mut Rng, network: &Network, demand: Demand) -> Vec<Vec<u8>> {
+    let (flow, _) = Flow::filled(rng, network, demand);
+    flow.shuffled_routes(rng)
 }
 
 struct Flow {
@@ -80,6 +79,13 @@ impl Flow {
             edges,
             open: edges,
         }
+    }
+
+    /// The flow with as many of the routes wanted as there is room for, and how many they are.
+    fn filled(rng: &mut Rng, network: &Network, demand: Demand) -> (Flow, usize) {
+        let mut flow = Flow::new(network, demand);
+        let found = (0..demand.count).take_while(|_| flow.augment(rng)).count();
+        (flow, found)
     }
 
     /// Finds room for one more route, which may lead earlier ones another way.
@@ -123,6 +129,13 @@ impl Flow {
         self.edges[from][to] && !self.open[from][to]
     }
 
+    /// The routes found so far, in random order.
+    fn shuffled_routes(&self, rng: &mut Rng) -> Vec<Vec<u8>> {
+        let mut routes = self.routes();
+        rng.shuffle(&mut routes);
+        routes
+    }
+
     /// The routes found so far.
     fn routes(&self) -> Vec<Vec<u8>> {
         let sources = (0..SERVERS).filter(|&source| self.is_taken(FEED, entry(source)));
@@ -145,7 +158,6 @@ mod tests {
     use reference::read_card;
 
     fn assert_kept(network: &Network, demand: Demand, routes: &[Vec<u8>]) {
-        assert_eq!(routes.len(), demand.count);
         let mut seen = 0u8;
         for route in routes {
             assert!(route.len() >= 2);
@@ -206,15 +218,18 @@ mod tests {
                 allowed,
                 count,
             };
-            let possible = smallest_cut(&network, demand) >= count;
+            let there_are = smallest_cut(&network, demand);
+            let most = most_routes(&mut rng, &network, demand);
+            assert_eq!(most.len(), there_are.min(count));
+            assert_kept(&network, demand, &most);
             match disjoint_routes(&mut rng, &network, demand) {
                 Some(routes) => {
-                    assert!(possible);
+                    assert!(there_are >= count && routes.len() == count);
                     assert_kept(&network, demand, &routes);
                     found += 1;
                 }
                 None => {
-                    assert!(!possible);
+                    assert!(there_are < count);
                     none += 1;
                 }
             }

@@ -1,6 +1,6 @@
 //! The load by the two implementations, and how often each answer was met.
 
-use crate::plans::{self, Compared};
+use crate::plans::{self, good, Compared};
 use crate::text::Plain;
 use crate::{add, converted};
 use reference::{relaying_places, Refusal};
@@ -68,7 +68,10 @@ impl Compared for Tally {
         }
         let from_n_on = &counts[servers(card)..];
         let stranger = from_n_on.iter().any(|&count| count > 0);
-        stranger.then_some("a server that is not there relays")
+        if stranger {
+            return Some("a server that is not there relays");
+        }
+        good::fault(card)
     }
 
     fn count(&mut self, card: &[u8], answer: &Result<Counts, Refusal>) {

@@ -1,6 +1,7 @@
 //! The plan check of the two implementations, and how often each answer was met.
 
 use super::compared::Compared;
+use super::good;
 use crate::{add, converted};
 use generate::DAMAGES;
 use reference::{Refusal, Totals};
@@ -49,6 +50,10 @@ impl Compared for Tally {
 
     fn of_reference(card: &[u8], plan: &[u8]) -> Result<Totals, Refusal> {
         reference::check_plan(card, plan)
+    }
+
+    fn fault(card: &[u8], _: &[u8], answer: &Result<Totals, Refusal>) -> Option<&'static str> {
+        answer.ok().and_then(|_| good::fault(card))
     }
 
     fn count(&mut self, _: &[u8], answer: &Result<Totals, Refusal>) {

@@ -6,7 +6,7 @@ use crate::converted;
 use crate::text::{cases, hex, plain, unhex};
 use crate::{cards, plans, runs};
 
-const QUICKS: &str = include_str!("../../data/quicks.tsv");
+pub(crate) const QUICKS: &str = include_str!("../../data/quicks.tsv");
 
 /// One line of the file.
 struct Case {

@@ -1,6 +1,7 @@
 //! Comparing the two implementations on one call, and counting what they answer.
 
 use crate::lent::{self, Call as _, Outcome};
+use crate::plans::good;
 use crate::text::{hex, hex_beginning};
 use crate::{add, converted};
 use agreement::ServerSet;
@@ -74,7 +75,7 @@ impl lent::Call for Call<'_> {
         if sound.iter().all(|&server| self.inputs[server] != bit) {
             return Some("no sound server had the decided bit as its input");
         }
-        None
+        good::fault(self.card)
     }
 }
 

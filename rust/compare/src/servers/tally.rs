@@ -2,6 +2,7 @@
 //! answer.
 
 use crate::lent::{self, Call as _, Outcome};
+use crate::plans::good;
 use crate::text::{hex, hex_beginning, Plain};
 use crate::{add, converted};
 use reference::{Refusal, State};
@@ -136,14 +137,15 @@ impl lent::Call for Call<'_> {
         let Ok(Step { state: after, .. }) = outcome.answer else {
             return fault;
         };
-        fault.or_else(|| match self.what {
+        let fault = fault.or_else(|| match self.what {
             What::Start { input } => {
                 let start = state([0, KINDS[0], input.into(), 2, 0]);
                 (after != start).then_some("a server does not start with its input at the start")
             }
             What::Ask { state, .. } => asked_fault(state, after, outcome.written()),
             What::Commit { state, .. } => committed_fault(state, after),
-        })
+        });
+        fault.or_else(|| good::fault(self.card))
     }
 }
 
