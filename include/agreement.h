@@ -218,7 +218,7 @@ void agreement_quick_test(const uint8_t *card, size_t card_length, uint64_t answ
  * number, place.
  * An accepted plan shows a good network, so one check is enough: wherever some plan is answered 0,
  * blocks, carriages, 0, agreement_split_test answers 0, 0, 0, 0, 0 for the same card, and n is at
- * least 3f+1. Of the network of a refused plan nothing is said.
+ * least 3f+1. A refused plan says nothing about the network.
  */
 void agreement_check_plan(const uint8_t *card, size_t card_length, const uint8_t *plan,
                           size_t plan_length, uint64_t answer[4]);

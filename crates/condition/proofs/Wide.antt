@@ -1,6 +1,6 @@
 -- Theorem 1's condition asks for many servers: three sets of at most f, two of them not empty, would be a split that breaks it.
 --     count-between    from one number on and below another there are at most as many servers as numbers
---     condition-wide   if the condition holds, n is at least 3f + 1 (Corollary 1 of the paper)
+--     condition-wide   if the condition holds, n is at least 3f + 1: claim (i) of the paper's Corollary 1
 -- Assumes nothing.
 use mathlib.Core.Path.{refl}
 use mathlib.Core.Logic.{⊎-elim}

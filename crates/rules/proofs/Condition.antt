@@ -41,11 +41,17 @@ module _ (n f : ℕ) (links : Links) (F L C R : Set) (p : Partition n F L C R) (
   cut : Cut n faults left
   cut =
       record {
-        inside = in-within n left (minus (full n) faults) (encode-small n L) (minus-small n (full n) faults (full-small n)) (λ i k e. let a = is-false (F i) (λ x. p .FL i k x (sym (encode-has n L i k) ∙ e)) in let b = has-outside i k in cc);
+        inside = in-within n left (minus (full n) faults) (encode-small n L) (minus-small n (full n) faults (full-small n)) sound;
         some = let c = count-some n (has left) (l .0) (l .1) (encode-has n L (l .0) (l .1) ∙ l .2) in omega arith;
         others = let c = count-some n (λ (i : ℕ). not (has faults i) && not (has left i)) (r .0) (r .1) outside in omega arith;
       }
     where
+      sound : (i : ℕ) → i < n → has left i ≡ true → has (minus (full n) faults) i ≡ true
+      sound i k e =
+          let a = is-false (F i) (λ x. p .FL i k x (sym (encode-has n L i k) ∙ e)) in
+          let b = has-outside i k in
+          cc
+
       outside : (not (has faults (r .0)) && not (has left (r .0))) ≡ true
       outside =
           let (i, k, e) = r in
@@ -55,7 +61,7 @@ module _ (n f : ℕ) (links : Links) (F L C R : Set) (p : Partition n F L C R) (
           let d = encode-has n L i k in
           cc
 
-  -- X faces the side Y
+  -- X has all of V−F outside Y, and Y has none of F
   module _ (X Y : Set) (faces : (i : ℕ) → i < n → Out F i → Out Y i → In X i) (sound : (i : ℕ) → i < n → In Y i → Out F i) where
     entered : (A y : ℕ) → In Y y → ((i : ℕ) → i < n → In (has A) i → Out Y i) → (ps : List Route) × Disjoint n f links faults A y ps → Arrow n f (linkedIn links) X Y
     entered A y into out (ps, d) =
@@ -103,7 +109,7 @@ module _ (n f : ℕ) (links : Links) (F L C R : Set) (p : Partition n F L C R) (
       cases (someBelow n (λ (i : ℕ). has (s .quorum) i && R i))
       (λ a.
       cases (someBelow n (λ (i : ℕ). has (s .quorum) i && L i))
-      (λ b. ⊎-elim (λ e. inl (met (joined L C) R faces-R sound-R (s .side) (s .quorum) (s .inward) (λ i k x. left-R i k (rw e at x)) a)) (λ e. inr (met (joined R C) L faces-L sound-L (s .side) (s .quorum) (s .inward) (λ i k x. rest-L i k (rw e at x)) b)) (s .part))
+      (λ b. ⊎-elim (λ e. inl (to-R (λ i k x. left-R i k (rw e at x)) a)) (λ e. inr (to-L (λ i k x. rest-L i k (rw e at x)) b)) (s .part))
       (λ b. inr (missed (joined R C) L faces-L sound-L (s .quorum) (s .outward) l b)))
       (λ a. inl (missed (joined L C) R faces-R sound-R (s .quorum) (s .outward) r a))
     where
@@ -118,6 +124,12 @@ module _ (n f : ℕ) (links : Links) (F L C R : Set) (p : Partition n F L C R) (
 
       faces-L : (i : ℕ) → i < n → Out F i → Out L i → In (joined R C) i
       faces-L i k a b = let w = p .whole i k in cases (R i) (λ x. cc) (λ x. cases (C i) (λ y. cc) (λ y. cc))
+
+      to-R : ((i : ℕ) → i < n → In (has (s .side)) i → Out R i) → someBelow n (λ (i : ℕ). has (s .quorum) i && R i) ≡ true → Arrow n f (linkedIn links) (joined L C) R
+      to-R = met (joined L C) R faces-R sound-R (s .side) (s .quorum) (s .inward)
+
+      to-L : ((i : ℕ) → i < n → In (has (s .side)) i → Out L i) → someBelow n (λ (i : ℕ). has (s .quorum) i && L i) ≡ true → Arrow n f (linkedIn links) (joined R C) L
+      to-L = met (joined R C) L faces-L sound-L (s .side) (s .quorum) (s .inward)
 
       -- A is L
       left-R : (i : ℕ) → i < n → has left i ≡ true → Out R i

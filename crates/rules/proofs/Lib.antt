@@ -12,7 +12,7 @@
 -- Crossing    what routes with only their receiver in common need of a network, for arbitrary sets
 -- Served      blocks within the rules serve every cut, so that their network is routable
 -- Condition   a routable network meets Theorem 1's condition
--- Main        what a user of the rules relies on: a plan is accepted exactly when it meets the rules
+-- Main        what a user of the rules relies on: a plan is accepted exactly when it meets the rules, and then its network is good
 pub mod Lists
 pub mod Order
 pub mod Routes

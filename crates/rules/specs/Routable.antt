@@ -1,5 +1,6 @@
 -- What a plan shows of its network: routes that have nothing in common but their receiver, for every F of at most f servers and every cut of V−F.
--- Nothing here speaks of bytes or of the order of blocks, and nothing of the commands 12 and 14.
+-- Nothing here speaks of bytes or of the order of blocks, and nothing of the commands 12 and 14. Changes from the paper: a route has at most eight
+-- servers, which says nothing where n is at most 8; that A, B and F are apart and F has at most f servers is said where `Propagates` is used.
 --     Passes p x                   <-> x is on the route p, as its source or as a relay
 --     Disjoint n f links F A r ps  <-> ps are f + 1 routes or more from A to r that exclude F, with no server but r on two of them
 --     Propagates n f links F A B   <-> A propagates in V−F to B: Definition 2 of Tseng and Vaidya

@@ -111,8 +111,8 @@ pub const PHRASES: &[Check] = &[phrases::stated, formulas::everywhere, formulas:
 /// All of them, those that take longest last.
 fn checks() -> Vec<Check> {
     [
-        PHRASES, LIMITS, BYTES, BLOCKS, LENGTHS, CASES, GOOD, RUNS, LOAD, OWN_PART, REFUSALS, NAMES,
-        WORDS, SITE, EXAMPLES,
+        PHRASES, LIMITS, BYTES, BLOCKS, LENGTHS, CASES, GOOD, RUNS, LOAD, OWN_PART, REFUSALS,
+        NAMES, WORDS, SITE, EXAMPLES,
     ]
     .concat()
 }

@@ -4,6 +4,7 @@
 //! is built, in a folder of its own for each triple of files.
 
 use crate::planned;
+use crate::plans::good;
 use crate::text::{cases, unhex};
 use generate::{card, damaged_plan, faulty, inputs, plan_like_bytes, table, with_twins, Rng};
 use reference::rehearse;
@@ -113,6 +114,11 @@ fn on_each(name: &str, triples: impl Iterator<Item = (Files, Option<String>)>) -
         assert_eq!(text, expected, "on {card:02x?}, {plan:02x?}, {run_in:02x?}");
         if let Some(stated) = stated {
             assert_eq!(text, stated, "on {card:02x?}, {plan:02x?}, {run_in:02x?}");
+        }
+        // Card and plan come before the call.
+        if text.starts_with("blocks ") || text.starts_with("refused call ") {
+            let fault = good::fault(card.as_deref().unwrap_or_default());
+            assert_eq!(fault, None, "on {card:02x?}, {plan:02x?}, {run_in:02x?}");
         }
         tally.count(&text);
     }

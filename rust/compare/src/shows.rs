@@ -4,7 +4,7 @@
 //! that ([`crate::plans`]). Here the networks come first. For those with a bad split, by the
 //! library's split test, there are near plans: whole, and sound in every block that can be had.
 //! Library and reference are asked about each as it is and damaged, and have to refuse it; as
-//! it is, in the first block that cannot be had. One rule read wrong, and many of them would be
+//! it is, in the first block that cannot be had. One rule read wrong, and some of them would be
 //! accepted. A network without a bad split has all blocks, and its near plan has to be accepted.
 //!
 //! - Random networks of every n and f ([`random_networks`]), and with every number of links

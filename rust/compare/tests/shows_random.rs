@@ -74,8 +74,6 @@ fn sparse_networks() {
     let tally = shows::sparse_networks(40, 2);
     println!("sparse networks: {tally}");
     assert!(tally.bad_cards() >= 300);
-    // With so few links hardly any block can be had.
-    assert_eq!(tally.passing(5), 0);
 }
 
 #[test]

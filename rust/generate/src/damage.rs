@@ -20,7 +20,7 @@ pub struct Damage {
 }
 
 impl Damage {
-    /// `plan`, an accepted plan for the network on `card`, damaged in this way at a
+    /// `plan`, an accepted plan for the network on `card` or the beginning of one, damaged in this way at a
     /// random command, or `None` if this plan leaves no room for it.
     pub fn apply(&self, rng: &mut Rng, card: &[u8], plan: &[u8]) -> Option<Vec<u8>> {
         let mut draft = Draft::new(rng, card, plan);
@@ -95,7 +95,7 @@ pub const DAMAGES: [Damage; 46] = [
     by_chance("byte inserted or removed", byte_inserted_or_removed),
 ];
 
-/// `plan`, an accepted plan for the network on `card`, damaged at a random command
+/// `plan`, an accepted or a near plan for the network on `card`, damaged at a random command
 /// in one of many ways. A few of the damaged plans are still plans that are
 /// accepted, such as one with two routes of a receiver exchanged.
 pub fn damaged_plan(rng: &mut Rng, card: &[u8], plan: &[u8]) -> Vec<u8> {

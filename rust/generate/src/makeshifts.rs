@@ -1,7 +1,7 @@
 //! What stands in a plan where what is due cannot be had.
 
-/// Something against the rules that stands where a block cannot be had. Each would pass if
-/// just one rule were read wrong.
+/// Something against the rules that stands where a block cannot be had. Those of routes and of
+/// blocks, where a plan has no other, would pass if just one rule were read wrong.
 #[derive(Debug, Clone, Copy, PartialEq, Eq)]
 pub enum Makeshift {
     /// A route that starts where another one to its receiver starts.

@@ -41,10 +41,19 @@ impl NearPlan {
 pub struct Gap {
     /// How many blocks are due before it.
     pub before: usize,
-    /// Where stands in the plan what is made up for it.
+    /// The part of the plan that is made up for it.
     pub part: Range<usize>,
     /// What in it is against the rules first.
     pub first: Makeshift,
+}
+
+impl Gap {
+    /// Whether this refusal is one that the gap brings, where all before it keeps the rules.
+    pub fn brings(&self, number: u8, place: usize) -> bool {
+        // What is left out may be noticed only after the block.
+        let after = self.first.may_end_the_block() && place == self.part.end;
+        self.first.meant().contains(&number) && (self.part.contains(&place) || after)
+    }
 }
 
 /// `count` random plans for the network on `card`, or none if the card is refused.
@@ -58,8 +67,8 @@ pub struct Gap {
 ///
 /// So a plan for a network without a bad split is accepted, and any other is refused in the
 /// first block that cannot be had. It is never refused for an N that cannot be had: where k
-/// has no f+1 incoming neighbours outside F, no block with k on one side alone can be had for
-/// F without k, and these come before.
+/// has no f+1 incoming neighbours outside F, the block of F without k that cuts k from the
+/// rest cannot be had either, and it comes before.
 pub fn near_plans(rng: &mut Rng, card: &[u8], count: usize) -> Vec<NearPlan> {
     let Ok(network) = read_card(card) else {
         return Vec::new();
@@ -587,9 +596,7 @@ mod tests {
             let Err(Refusal::Plan { number, place }) = check_plan(&card, &near.plan) else {
                 panic!("not refused: {card:02x?}, {gap:?}");
             };
-            assert!(gap.first.meant().contains(&number), "{number} {gap:?}");
-            let at_its_end = gap.first.may_end_the_block() && place == gap.part.end;
-            assert!(gap.part.contains(&place) || at_its_end, "{place} {gap:?}");
+            assert!(gap.brings(number, place), "{number} at {place}, {gap:?}");
             // As many blocks as are due before it stand before it.
             let openings = places(&near.plan[..gap.part.start], &[BLOCK]);
             assert_eq!(openings.len(), gap.before);

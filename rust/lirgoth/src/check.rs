@@ -62,7 +62,6 @@ fn enough(f: u8) -> String {
 mod tests {
     use super::*;
     use agreement::ServerSet;
-    use generate::{broken_off_plan, network_card, Rng};
 
     #[test]
     fn an_accepted_plan_is_told_with_what_it_shows() {
@@ -90,25 +89,5 @@ mod tests {
              no bad split: the offices can agree, whichever two of them fail; \
              the accepted plan shows this, and no other check is needed\n"
         );
-    }
-
-    /// Networks of any links, each with as much of a plan as there can be.
-    #[test]
-    fn what_an_accepted_plan_shows_is_so() {
-        let mut rng = Rng::new(8);
-        let (mut accepted, mut split) = (0, 0);
-        for round in 0..420 {
-            let (n, f) = (2 + (round % 7) as u8, (round % 3) as u8);
-            let card = network_card(&mut rng, n, f);
-            let plan = broken_off_plan(&mut rng, &card);
-            let bad_split = agreement::split_test(&card).expect("a sound card");
-            split += usize::from(bad_split.is_some());
-            if agreement::check_plan(&card, &plan).is_ok() {
-                assert_eq!(bad_split, None, "{card:02x?}");
-                assert!(n >= wanted(f).0, "{card:02x?}");
-                accepted += 1;
-            }
-        }
-        assert!(accepted > 50 && split > 50, "{accepted} and {split}");
     }
 }

@@ -60,7 +60,8 @@ pub fn hearing(side: ServerSet, network: &Network, names: &Names, split: &Split)
 pub const SO: &str = "so L could show open while R shows closed, and no plan can help";
 
 /// How many offices the older rule for two-way sites wants, and how many of them to be
-/// taken away before the rest falls apart.
+/// taken away before the rest falls apart. No network with fewer offices can agree, two-way
+/// or not.
 pub fn wanted(f: u8) -> (u8, u8) {
     (3 * f + 1, 2 * f + 1)
 }

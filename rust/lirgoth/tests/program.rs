@@ -274,6 +274,9 @@ fn the_installers_way_of_the_readme() {
     let tanker = fs::read_to_string(example("tanker") + "/expected/explain.txt");
     let tanker = tanker.expect("stored words");
     assert!(readme.contains(tanker.lines().last().expect("a refusal in words")));
+    let check = out(&["check", &example("dry-bulk")], ANSWERED);
+    let check: String = check.lines().map(|line| format!("    {line}\n")).collect();
+    assert!(readme.contains(&check), "{check}");
     let lines = readme
         .lines()
         .map(|line| line.strip_prefix("       ").unwrap_or_default());

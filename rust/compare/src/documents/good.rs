@@ -1,17 +1,30 @@
 //! What an accepted plan shows of its network, as header, docs/FORMATS.md and
 //! docs/THEOREMS.md tell of it, beside what the library answers.
 
+use super::blocks::{due, Cut};
 use super::header::name;
+use super::library::*;
 use super::page::Held;
-use super::plans::EXTREMES;
+use super::plans::{choices, plan, Choice};
 use super::quick::formula;
 use super::Documents;
+use agreement::check_plan;
+use generate::complete_card;
 
-/// The least n with which the library accepts a plan at this f.
+/// The least n with which the library accepts a plan at this f, for the network with all links.
 fn fewest_planned(f: u8) -> u8 {
-    let planned = EXTREMES.iter().filter(|extreme| extreme.f == f);
-    let least = planned.map(|extreme| extreme.n).min();
-    least.expect("some size has a plan")
+    let found = SIZES.n.iter().find(|&n| {
+        let blocks: Vec<Choice> = due(n, f).into_iter().map(|cut| best(cut, f)).collect();
+        check_plan(&complete_card(n, f), &plan(f, &blocks)).is_ok()
+    });
+    found.expect("some size has a plan")
+}
+
+/// An A and S for which f+1 separate routes lead to each receiver, or any, where there are too
+/// few servers.
+fn best(cut: Cut, f: u8) -> Choice {
+    let best = choices(cut).max_by_key(|choice| choice.serves(f));
+    best.expect("a cut has two parts")
 }
 
 /// What stands of it above the declaration of the plan check, and in the sections of plans.

@@ -53,7 +53,7 @@ impl Compared for Tally {
     }
 
     fn fault(card: &[u8], _: &[u8], answer: &Result<Totals, Refusal>) -> Option<&'static str> {
-        answer.ok().and_then(|_| good::fault(card))
+        good::fault_after(card, answer)
     }
 
     fn count(&mut self, _: &[u8], answer: &Result<Totals, Refusal>) {

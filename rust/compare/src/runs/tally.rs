@@ -56,6 +56,7 @@ impl lent::Call for Call<'_> {
     fn fault(&self, outcome: &Outcome<Totals>) -> Option<&'static str> {
         // An answered call has n inputs.
         let fault = outcome.fault(self.inputs.len());
+        let fault = fault.or_else(|| good::fault_after(self.card, &outcome.answer));
         if fault.is_some() || outcome.answer.is_err() {
             return fault;
         }
@@ -75,7 +76,7 @@ impl lent::Call for Call<'_> {
         if sound.iter().all(|&server| self.inputs[server] != bit) {
             return Some("no sound server had the decided bit as its input");
         }
-        good::fault(self.card)
+        None
     }
 }
 

@@ -134,18 +134,18 @@ impl lent::Call for Call<'_> {
     fn fault(&self, outcome: &Outcome<Step>) -> Option<&'static str> {
         let values = outcome.answer.map_or(0, |step| step.values);
         let fault = outcome.fault(values);
+        let fault = fault.or_else(|| good::fault_after(self.card, &outcome.answer));
         let Ok(Step { state: after, .. }) = outcome.answer else {
             return fault;
         };
-        let fault = fault.or_else(|| match self.what {
+        fault.or_else(|| match self.what {
             What::Start { input } => {
                 let start = state([0, KINDS[0], input.into(), 2, 0]);
                 (after != start).then_some("a server does not start with its input at the start")
             }
             What::Ask { state, .. } => asked_fault(state, after, outcome.written()),
             What::Commit { state, .. } => committed_fault(state, after),
-        });
-        fault.or_else(|| good::fault(self.card))
+        })
     }
 }
 

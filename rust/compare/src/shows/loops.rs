@@ -1,7 +1,7 @@
 //! The networks for which near plans are compared.
 //!
-//! In each loop `rounds` is how many networks there are of five servers or fewer with faults;
-//! of others there are fewer. `times` is how many near plans there are for a network with a bad
+//! In each loop `rounds` is how many seeds there are for five servers or fewer with faults; for
+//! others there are fewer. `times` is how many near plans there are for a network with a bad
 //! split.
 
 use super::tally::Tally;
@@ -17,8 +17,8 @@ use generate::{
 use std::ops::Range;
 
 /// The seeds for networks of `n` servers and `f` faults. The plans of six servers and more are
-/// long; and without faults no block can be had where one cannot, so that a near plan passes
-/// nothing. There is one seed at least.
+/// long; and without faults a network with a bad split has no block at all, so that a near plan
+/// passes nothing. There is one seed at least.
 fn seeds(n: u8, f: u8, rounds: u64) -> Range<u64> {
     let by_length = match n {
         8 => 40,
@@ -160,21 +160,20 @@ pub fn every_small_network(times: usize) -> Tally {
     tally
 }
 
-/// One random card for each seed, if it is read and has six servers or fewer.
+/// One random card for each seed, if it is read.
 pub fn random_cards(seeds: Range<u64>, times: usize) -> Tally {
     let mut tally = Tally::default();
     for seed in seeds {
         let mut rng = Rng::new(seed);
         let card = generate::card(&mut rng);
-        if has_short_plans(&card) {
-            tally.compare(&mut rng, &card, times, format_args!("card, seed {seed}"));
-        }
+        let times = fewer_for_many_servers(&card, times);
+        tally.compare(&mut rng, &card, times, format_args!("card, seed {seed}"));
     }
     tally
 }
 
 /// Every card of `data/cards.tsv`, `data/plans.tsv`, `data/quicks.tsv` and `data/runs.tsv` that
-/// is read and has six servers or fewer.
+/// is read.
 pub fn given_cards(times: usize) -> Tally {
     let mut tally = Tally::default();
     let files = [CARDS, PLANS, QUICKS, RUNS];
@@ -182,19 +181,22 @@ pub fn given_cards(times: usize) -> Tally {
     let mut cards: Vec<Vec<u8>> = files
         .into_iter()
         .flat_map(|file| cases(file).map(|fields| unhex(fields[1])))
-        .filter(|card| has_short_plans(card))
         .collect();
     cards.sort_unstable();
     cards.dedup();
     for (number, card) in cards.iter().enumerate() {
         let mut rng = Rng::new(number as u64);
         let made_by = format_args!("given_cards, seed {number}");
+        let times = fewer_for_many_servers(card, times);
         tally.compare(&mut rng, card, times, made_by);
     }
     tally
 }
 
-/// Whether the card has six servers or fewer, if it is sound.
-fn has_short_plans(card: &[u8]) -> bool {
-    card.get(1).is_some_and(|&n| n <= 6)
+/// One near plan where the card has more than six servers, if it is sound: their plans are long.
+fn fewer_for_many_servers(card: &[u8], times: usize) -> usize {
+    match card.get(1) {
+        Some(7..) => 1,
+        _ => times,
+    }
 }

@@ -70,10 +70,10 @@ impl Tally {
         let (n, f) = (usize::from(card[1]), usize::from(card[2]));
         self.cards[n][f][usize::from(split.is_some())] += 1;
         if split.is_none() {
-            for near in near_plans(rng, card, 1) {
-                self.accepted(card, &near, made_by);
-            }
-            return;
+            let [near] = &near_plans(rng, card, 1)[..] else {
+                panic!("no near plan: {made_by}");
+            };
+            return self.accepted(card, near, made_by);
         }
         for (number, near) in near_plans(rng, card, times).iter().enumerate() {
             let made_by = format_args!("{made_by}, near plan {number}");
@@ -104,11 +104,8 @@ impl Tally {
         let Some(gap) = near.gaps.first() else {
             panic!("every block can be had: {made_by}");
         };
-        // What is left out may be missed only where the block is over.
-        let missed = gap.first.may_end_the_block() && place == gap.part.end;
-        let is_due = gap.first.meant().contains(&number);
         assert!(
-            is_due && (gap.part.contains(&place) || missed),
+            gap.brings(number, place),
             "refused {number} at {place}, but this comes first: {gap:?}, {made_by}"
         );
         self.passed.push(gap.before);
@@ -145,7 +142,7 @@ impl Display for Tally {
             out,
             "{} cards with a bad split, {} without and as many near plans accepted",
             self.bad_cards(),
-            self.good.accepted
+            self.good_cards()
         )?;
         writeln!(
             out,
