@@ -9,9 +9,9 @@
 -- Meshes      the routes between the servers of a set
 -- Reports     the reports of a block: the check of the commands 14
 -- Whole       the check of one block, and of the blocks of a list of due ones
--- Crossing    what routes with only their receiver in common need of a network, for arbitrary sets
+-- SeparateRoutes   what routes with only their receiver in common need of a network, for arbitrary sets
 -- Served      blocks within the rules serve every cut, so that their network is routable
--- Condition   a routable network meets Theorem 1's condition
+-- Routable    a routable network meets Theorem 1's condition
 -- Main        what a user of the rules relies on: a plan is accepted exactly when it meets the rules, and then its network is good
 pub mod Lists
 pub mod Order
@@ -24,7 +24,7 @@ pub mod Fans
 pub mod Meshes
 pub mod Reports
 pub mod Whole
-pub mod Crossing
+pub mod SeparateRoutes
 pub mod Served
-pub mod Condition
+pub mod Routable
 pub mod Main

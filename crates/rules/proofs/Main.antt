@@ -36,7 +36,7 @@ use Rattle.rules.proofs.Bytes.{span-head}
 use Rattle.rules.proofs.Progress.{turned-totals, reached-same, cond-false, due-forward, due-backward, then-forward, cut-backward}
 use Rattle.rules.proofs.Whole.{decode-length, blocks-forward, blocks-backward}
 use Rattle.rules.proofs.Served.{order-routable}
-use Rattle.rules.proofs.Condition as Routes
+use Rattle.rules.proofs.Routable as Routes
 
 -- totals
 

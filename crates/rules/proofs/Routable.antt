@@ -20,7 +20,7 @@ use Rattle.network.proofs.Neighbours.{some-at, none-at}
 use Rattle.condition.specs.Condition.{neighbour, Arrow, joined, Partition, Some, Condition}
 use Rattle.rules.specs.Blocks.{Route}
 use Rattle.rules.specs.Routable.{Disjoint, Propagates, Cut, Served, Routable}
-use Rattle.rules.proofs.Crossing.{fan-crosses}
+use Rattle.rules.proofs.SeparateRoutes.{fan-crosses}
 
 module _ (n f : ℕ) (links : Links) (F L C R : Set) (p : Partition n F L C R) (l : Some n L) (r : Some n R) (few : count n F ≤ f) where
   -- the sets as numbers
