@@ -24,5 +24,5 @@ pub mod Heads
 pub mod Search
 pub mod Neighbours
 pub mod SourceRows
-mod Weakness
+pub mod Weakness
 mod Scans

@@ -29,6 +29,8 @@ of-call CallGround.FaultSet = refl
 of-call CallGround.Buffer = refl
 of-call CallGround.OneWay = refl
 of-call CallGround.OutOfTurn = refl
+of-call CallGround.BadSplit = refl
+of-call CallGround.PlanBuffer = refl
 
 pub call-place : (g : CallGround) → 0 ≡ placeOf (callRefusal g)
 call-place CallGround.Inputs = refl
@@ -36,3 +38,5 @@ call-place CallGround.FaultSet = refl
 call-place CallGround.Buffer = refl
 call-place CallGround.OneWay = refl
 call-place CallGround.OutOfTurn = refl
+call-place CallGround.BadSplit = refl
+call-place CallGround.PlanBuffer = refl

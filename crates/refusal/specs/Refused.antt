@@ -35,6 +35,8 @@ callRefusal CallGround.FaultSet = call 13
 callRefusal CallGround.Buffer = call 14
 callRefusal CallGround.OneWay = call 15
 callRefusal CallGround.OutOfTurn = call 16
+callRefusal CallGround.BadSplit = call 17
+callRefusal CallGround.PlanBuffer = call 18
 
 abbrev pub refusalOf : Refusal → Refused
 refusalOf (Card g) = cardRefusal g

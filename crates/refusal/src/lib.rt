@@ -46,6 +46,10 @@ pub enum CallGround {
     OneWay,
     // An ask while one is open, or a commit with none open.
     OutOfTurn,
+    // The network has a bad split, so no plan is accepted for it.
+    BadSplit,
+    // The lent buffer is shorter than the plan to be written.
+    PlanBuffer,
 }
 
 pub enum Refusal {
@@ -101,10 +105,12 @@ fn call_number(g: CallGround) -> u8
         CallGround::Buffer => 14,
         CallGround::OneWay => 15,
         CallGround::OutOfTurn => 16,
+        CallGround::BadSplit => 17,
+        CallGround::PlanBuffer => 18,
     }
 }
 
-// The refusal's number, 1 to 16 without 6.
+// The refusal's number, 1 to 18 without 6.
 pub fn number(r: Refusal) -> u8
     ensures { λ m. ⌜ m ≡ numberOf (refusalOf r) ⌝ }
 {

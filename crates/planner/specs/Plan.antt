@@ -1,0 +1,65 @@
+-- The plan that is written for a network.
+--     blockOf n f links d     == the block for the due F and part: A, S, the routes and the reports
+--     planOf n f links        == the blocks of the plan
+--     planBytes n f links     == its bytes
+use mathlib.Core.List.{List, [], _∷_, _++_, map}
+use Prim.Native.Nat.{ℕ, zero, suc, _+_}
+use lib.ListN.{length}
+use Rattle.sets.specs.Sets.{single, union, meet, minus, full, lowest}
+use Rattle.network.specs.Links.{Links, linkedIn}
+use Rattle.network.specs.Rows.{rowsOf}
+use Rattle.network.specs.Sources.{sourcesTo}
+use Rattle.plan.specs.Members.{members}
+use Rattle.plan.specs.Due.{DueBlock, due}
+use Rattle.rules.specs.Blocks.{Route, Report, Block, encodePlan}
+use Rattle.rules.specs.Rules.{pairsOf}
+use Rattle.flow.specs.Search.{flowTo}
+use Rattle.flow.specs.Routes.{routesOf}
+use Rattle.planner.specs.Choice.{sideOf, quorumOf}
+
+-- k separate routes in V−F from the sources to r, as the search finds them
+unfoldable pub routesTo : ℕ → Links → (F sources k r : ℕ) → List Route
+routesTo n links F sources k r = routesOf (flowTo (rowsOf (linkedIn links)) (minus (full n) F) sources r k .flow) r
+
+-- f + 1 to each receiver of the list
+unfoldable pub fansTo : (n f : ℕ) → Links → (F sources : ℕ) → List ℕ → List Route
+fansTo n f links F sources [] = []
+fansTo n f links F sources (r ∷ rs) = routesTo n links F sources (f + 1) r ++ fansTo n f links F sources rs
+
+-- one for each pair of a receiver and a source
+unfoldable pub meshOf : ℕ → Links → ℕ → List (ℕ × ℕ) → List Route
+meshOf n links F [] = []
+meshOf n links F (e ∷ es) = routesTo n links F (single (e .1)) 1 (e .0) ++ meshOf n links F es
+
+-- the k lowest members of s
+unfoldable pub lowestOf : (k s : ℕ) → ℕ
+lowestOf zero s = 0
+lowestOf (suc k) s = union (single (lowest s)) (lowestOf k (minus s (single (lowest s))))
+
+-- who reports to k: the f + 1 lowest servers of V−F with a link to it
+unfoldable pub reportTo : (n f : ℕ) → Links → (F k : ℕ) → Report
+reportTo n f links F k = record { receiver = k; reporters = lowestOf (f + 1) (meet (minus (full n) F) (sourcesTo links k)) }
+
+-- S lies within A, so there is no route into it from the rest of A
+unfoldable pub blockWith : (n f : ℕ) → Links → (F A S : ℕ) → Block
+blockWith n f links F A S =
+    record {
+      faults = F;
+      side = A;
+      quorum = S;
+      inward = [];
+      among = meshOf n links F (pairsOf (members S) (members S));
+      outward = fansTo n f links F S (members (minus (minus (full n) F) S));
+      reports = map (reportTo n f links F) (members F);
+    }
+
+unfoldable pub blockOf : (n f : ℕ) → Links → DueBlock → Block
+blockOf n f links d =
+    let A = sideOf n f links (d .faults) (d .part) in
+    blockWith n f links (d .faults) A (quorumOf n f links (d .faults) A)
+
+unfoldable pub planOf : (n f : ℕ) → Links → List Block
+planOf n f links = map (blockOf n f links) (due n f)
+
+unfoldable pub planBytes : (n f : ℕ) → Links → List ℕ
+planBytes n f links = encodePlan (planOf n f links)
