@@ -47,7 +47,7 @@ has-sound n F x e = let (p, q) = has-left (full n) F x e in (ltb-true x n (sym (
 pub sound-small : (n F : ℕ) → minus (full n) F < 2 ^ n
 sound-small n F = minus-small n (full n) F (full-small n)
 
-shared-small : (n a b : ℕ) → a < 2 ^ n → meet a b < 2 ^ n
+pub shared-small : (n a b : ℕ) → a < 2 ^ n → meet a b < 2 ^ n
 unfolding meet
 shared-small n a b p = let q = and-le-l a b in omega arith
 

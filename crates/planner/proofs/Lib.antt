@@ -3,8 +3,10 @@
 -- WeakSets     weak sets by their members; any two of them meet
 -- Hitting      sets that meet every weak set
 -- Quorums      a quorum that needs each of its servers has exactly f + 1, all joined
+-- Reporters    the servers that report to one of F
 pub mod Examples
 pub mod Submodular
 pub mod WeakSets
 pub mod Hitting
 pub mod Quorums
+pub mod Reporters
