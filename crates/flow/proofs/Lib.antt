@@ -1,4 +1,6 @@
 -- Kept        flows: what is kept at the two sides of every server
+-- Updates     what each change of a flow changes
 -- Examples    the search computed on small networks
 pub mod Kept
+pub mod Updates
 pub mod Examples
