@@ -3,4 +3,5 @@
 -- Examples    the search computed on small networks
 pub mod Kept
 pub mod Updates
+pub mod Pushed
 pub mod Examples
