@@ -1,3 +1,11 @@
+-- A search that finds something has a flow with one route more. A change on the way back moves the unit that is lacking from one side to the side
+-- before it: end-moves, use-moves, unuse-moves, step-moves, unstep-moves, and start-moves, after which none is lacking. That a change finds the
+-- flow as the search saw it is by the marks: what is marked at a call is not changed by what the call finds (`Push`).
+--     tries-holds     what holds at the start of a loop and after each try holds at its end; changed-holds of one step more
+--     search-pushes   by the allowance: both searches, from an entry side and from a leaving side, keep `Push`
+--     seek-valid      the flow that is found has one route more
+--     flow-valid      the flow with k routes, where one is found
+--     flow-lost       where none is: the search that found no more, from a flow with fewer
 -- Assumes nothing.
 use mathlib.Core.Path.{_≡_, refl, sym, ap, _∙_}
 use mathlib.Core.Logic.{_⊎_, inl, inr, ⊎-elim}
@@ -10,7 +18,7 @@ use lib.ListN.{length, getD, set, replicate}
 use borrow.Author.Tests.{eqb-true, eqb-false, ne-eqb, ltb-true}
 use Rattle.facts.proofs.Bools.{cases, by-cond, clash, and-left, and-right, not-true, is-false, or-cases, bools}
 use Rattle.sets.specs.Sets.{Set, In, Out, has, single, union, meet, minus, count}
-use Rattle.sets.proofs.Members.{has-union, has-meet, has-minus, has-single, has-empty, has-below}
+use Rattle.sets.proofs.Members.{has-union, has-meet, has-minus, has-single, has-empty, has-below, minus-small}
 use Rattle.sets.proofs.Counts.{count-none}
 use Rattle.sets.proofs.LowestMember.{firstIn-found}
 use Rattle.flow.specs.declared.Flow.{Flow}
@@ -107,10 +115,10 @@ module _ (rows : List ℕ) (inner last sources k : ℕ) where
         starts = h .starts;
         ending = h .ending;
         steps = λ p z e.
-          let a = step-put x y low small φ (h .long) p z in
-          cases (eqb x p)
-          (λ t. cases (eqb y z) (λ u. let v = eqb-true x p t in let w = eqb-true y z u in rw (← v, ← w) (r, i)) (λ u. h .steps p z cc))
-          (λ t. h .steps p z cc);
+            let a = step-put x y low small φ (h .long) p z in
+            cases (eqb x p)
+            (λ t. cases (eqb y z) (λ u. let v = eqb-true x p t in let w = eqb-true y z u in rw (← v, ← w) (r, i)) (λ u. h .steps p z cc))
+            (λ t. h .steps p z cc);
         entry = λ z l. let a = h .entry z l in let b = into-put x y low small φ (h .long) o z in let c = one-nowhere z in omega arith;
         leaving = λ p l. let a = h .leaving p l in let b = from-put x y low small φ (h .long) o p in let c = one-nowhere p in omega arith;
         value = h .value;
@@ -387,3 +395,91 @@ module _ (rows : List ℕ) (inner last sources k : ℕ) (φ : Flow) (valid : Val
   search-pushes : (j : ℕ) → Entering j × Leaving j
   search-pushes zero = (enter-none, leave-none)
   search-pushes (suc j) = let ih = search-pushes j in (enter-more j (ih .1), leave-more j (ih .0))
+
+  -- a search from the sources that finds something has one route more
+  seek-valid : ((x : ℕ) → In (has sources) x → In (has inner) x) → (seek rows inner last sources φ) .found ≡ true
+      → Valid rows inner last sources (suc k) ((seek rows inner last sources φ) .flow)
+  unfolding seek lost reached
+  seek-valid within =
+      let Q : Sought → Type 0 = λ s. s .found ≡ true → Valid rows inner last sources (suc k) (s .flow) in
+      let try : ℕ → ℕ → ℕ → Sought = λ x e l. changed (withStart x) (enter sides rows inner last φ e l x) in
+      tries-holds try sources Q
+      (λ x s q c new. let i = within x c in
+      let t = enter sides rows inner last φ (s .entered) (s .left) x in
+      let h = (search-pushes sides) .0 (s .entered) (s .left) x i new in
+      changed-holds (withStart x) t Q (λ f y. start-moves rows inner last sources k x (has-below 8 inner x small i) (t .flow) c (h .kept f)) (λ n y. clash (t .found) y n))
+      8 0 (lost φ 0 0) (λ y. clash false y refl)
+
+-- one search after the other
+module _ (rows : List ℕ) (inner last sources : ℕ) (small : inner < 256) (alone : (x : ℕ) → Out (has (getD rows x 0)) x) (within : (x : ℕ) → In (has sources) x → In (has inner) x) where
+  -- what holds after the searches for a flow of value m: it has this value; or the last of them found nothing, from a flow of less value
+  abbrev Outcome : ℕ → Sought → Type 0
+  Outcome m s =
+      (s .found ≡ true → Valid rows inner last sources m (s .flow))
+      × (s .found ≡ false → (i : ℕ) × (i < m) × (φ : Flow) × Valid rows inner last sources i φ × (seek rows inner last sources φ ≡ s))
+
+  outcome-found : (m j : ℕ) (s : Sought) → m ≡ j → s .found ≡ true → Valid rows inner last sources j (s .flow) → Outcome m s
+  outcome-found m j s e f v = (λ t. rw e v, λ t. clash (s .found) f t)
+
+  outcome-lost : (m j : ℕ) (φ : Flow) → j < m → Valid rows inner last sources j φ → (seek rows inner last sources φ) .found ≡ false
+      → Outcome m (seek rows inner last sources φ)
+  outcome-lost m j φ l v o = (λ t. clash ((seek rows inner last sources φ) .found) t o, λ t. (j, l, φ, v, refl))
+
+  all-outcome : (k m j : ℕ) (s : Sought) → m ≡ j + k → s .found ≡ true → Valid rows inner last sources j (s .flow) → Outcome m (seekAll rows inner last sources k s)
+  unfolding seekAll
+  all-outcome zero m j s e f v = outcome-found m j s (omega arith) f v
+  all-outcome (suc k) m j s e f v =
+      let t = seek rows inner last sources (s .flow) in
+      by-cond (Outcome m) (t .found) (seekAll rows inner last sources k t) t
+      (λ g. all-outcome k m (suc j) t (omega arith) g (seek-valid rows inner last sources j (s .flow) v small alone within g))
+      (λ g. outcome-lost m j (s .flow) (omega arith) v g)
+
+-- no row of an empty flow has a server
+no-row : (n x : ℕ) → getD {A = ℕ} (replicate n 0) x 0 ≡ 0
+no-row zero x = refl
+no-row (suc n) zero = refl
+no-row (suc n) (suc x) = no-row n x
+
+no-step : (x y : ℕ) → outIn noFlow x y ≡ false
+unfolding outIn noFlow
+no-step x y = rw (no-row 8 x) (has-empty y)
+
+pub noFlow-valid : (rows : List ℕ) (inner last sources : ℕ) → Valid rows inner last sources 0 noFlow
+unfolding noFlow
+noFlow-valid rows inner last sources =
+    record {
+      long = refl;
+      passes = λ x e. clash (has 0 x) e (has-empty x);
+      starts = λ x e. clash (has 0 x) e (has-empty x);
+      ending = λ x e. clash (has 0 x) e (has-empty x);
+      steps = λ x y e. clash (outIn noFlow x y) e (no-step x y);
+      entry = λ x l. let a = one-nowhere x in let b = one-false (has 0 x) (has-empty x) in let c = count-none 8 (λ (p : ℕ). outIn noFlow p x) (λ p h. no-step p x) in omega arith;
+      leaving = λ x l. let a = one-nowhere x in let b = one-false (has 0 x) (has-empty x) in let c = count-none 8 (outIn noFlow x) (λ p h. no-step x p) in omega arith;
+      value = count-none 8 (has 0) (λ i h. has-empty i);
+    }
+
+-- the flow with k routes to r in W
+module _ (rows : List ℕ) (W sources r k : ℕ) (small : W < 256) (alone : (x : ℕ) → Out (has (getD rows x 0)) x) where
+  abbrev inner : ℕ
+  inner = minus W (single r)
+
+  inner-small : inner < 256
+  inner-small = minus-small 8 W (single r) small
+
+  sources-inner : (x : ℕ) → In (has (meet sources inner)) x → In (has inner) x
+  sources-inner x e = and-right (has sources x) _ (sym (has-meet sources inner x) ∙ e)
+
+  flow-outcome : Outcome rows inner (linkedTo rows W r) (meet sources inner) inner-small alone sources-inner k (flowTo rows W sources r k)
+  unfolding flowTo reached
+  flow-outcome =
+      all-outcome rows inner (linkedTo rows W r) (meet sources inner) inner-small alone sources-inner k k 0 (reached noFlow 0 0) (omega arith) refl
+      (noFlow-valid rows inner (linkedTo rows W r) (meet sources inner))
+
+  pub flow-valid : (flowTo rows W sources r k) .found ≡ true
+      → Valid rows (minus W (single r)) (linkedTo rows W r) (meet sources (minus W (single r))) k ((flowTo rows W sources r k) .flow)
+  flow-valid f = flow-outcome .0 f
+
+  pub flow-lost : (flowTo rows W sources r k) .found ≡ false
+      → (j : ℕ) × (j < k) × (φ : Flow) × Valid rows (minus W (single r)) (linkedTo rows W r) (meet sources (minus W (single r))) j φ
+      × (seek rows (minus W (single r)) (linkedTo rows W r) (meet sources (minus W (single r))) φ ≡ flowTo rows W sources r k)
+  flow-lost f = flow-outcome .1 f
