@@ -5,4 +5,5 @@
 pub mod Kept
 pub mod Updates
 pub mod Pushed
+pub mod Trails
 pub mod Examples
