@@ -7,24 +7,24 @@
 --     flow-valid      the flow with k routes, where one is found
 --     flow-lost       where none is: the search that found no more, from a flow with fewer
 -- Assumes nothing.
-use mathlib.Core.Path.{_≡_, refl, sym, ap, _∙_}
-use mathlib.Core.Logic.{_⊎_, inl, inr, ⊎-elim}
-use mathlib.Core.Bool.{Bool, true, false, cond, not, _&&_, _||_}
+use mathlib.Core.Path.{_≡_, refl, sym, _∙_}
+use mathlib.Core.Logic.{_⊎_, ⊎-elim}
+use mathlib.Core.Bool.{true, false, cond, not, _&&_}
 use mathlib.Core.List.{List}
 use Prim.Native.Nat.{ℕ, zero, suc, _+_, _<_}
 use native.Mathlib.Omega.{arith}
 use lib.Dec.{eqb, ltb}
-use lib.ListN.{length, getD, set, replicate}
-use borrow.Author.Tests.{eqb-true, eqb-false, ne-eqb, ltb-true}
+use lib.ListN.{getD, replicate}
+use borrow.Author.Tests.{eqb-true, ne-eqb, ltb-true}
 use Rattle.facts.proofs.Bools.{cases, by-cond, clash, and-left, and-right, not-true, is-false, or-cases, bools}
-use Rattle.sets.specs.Sets.{Set, In, Out, has, single, union, meet, minus, count}
+use Rattle.sets.specs.Sets.{Set, In, Out, has, single, union, meet, minus}
 use Rattle.sets.proofs.Members.{has-union, has-meet, has-minus, has-single, has-empty, has-below, minus-small}
 use Rattle.sets.proofs.Counts.{count-none}
 use Rattle.sets.proofs.LowestMember.{firstIn-found}
 use Rattle.flow.specs.declared.Flow.{Flow}
 use Rattle.flow.specs.declared.Sought.{Sought}
 use Rattle.flow.specs.Search.{noFlow, outIn, withStart, withEnd, withUse, withoutUse, withStep, withoutStep, lost, reached, changed, feeder, behind, stepIn, stepOut, tries, ahead, enter, leave, sides, seek, seekAll, linkedTo, flowTo}
-use Rattle.flow.proofs.Kept.{one, nowhere, Kept, Valid}
+use Rattle.flow.proofs.Kept.{nowhere, Kept, Valid}
 use Rattle.flow.proofs.Updates.{eqb-self, eqb-swap, one-nowhere, one-true, one-false, one-most, one-is, has-put, has-drop, one-put, one-drop, count-start, step-long, unstep-long, step-put, step-drop, into-put, from-put, into-drop, from-drop}
 
 module _ (rows : List ℕ) (inner last sources k : ℕ) where
@@ -234,7 +234,7 @@ module _ (rows : List ℕ) (inner last sources k : ℕ) (φ : Flow) (valid : Val
     abbrev low : x < 8
     low = has-below 8 inner x small i
 
-    module _ (t : Sought) (h : Push mark L nowhere (eqb (behind φ x)) t) (below : behind φ x < 8) (open′ : Out (has L) (behind φ x)) (f : t .found ≡ true) where
+    module _ (t : Sought) (h : Push mark L nowhere (eqb (behind φ x)) t) (below : behind φ x < 8) (clear : Out (has L) (behind φ x)) (f : t .found ≡ true) where
       push-use : eqb (behind φ x) x ≡ true → Push E L (eqb x) nowhere (reached (withUse x (t .flow)) (t .entered) (t .left))
       unfolding reached withUse outIn
       push-use e =
@@ -260,7 +260,7 @@ module _ (rows : List ℕ) (inner last sources k : ℕ) (φ : Flow) (valid : Val
             left = h .left;
             used = λ z j. h .used z (put-in E x z j);
             into = λ p z j. let a = d p z in let b = other E x z fresh j in let c = h .into p z (put-in E x z j) in cases (eqb (behind φ x) p) (λ u. cc) (λ u. cc);
-            from = λ p z j. let a = d p z in let b = other L (behind φ x) p open′ j in let c = h .from p z j in cc;
+            from = λ p z j. let a = d p z in let b = other L (behind φ x) p clear j in let c = h .from p z j in cc;
             kept = λ y. unstep-moves rows inner last sources k (behind φ x) below (t .flow) x low o n;
           }
 

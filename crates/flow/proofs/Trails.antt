@@ -10,8 +10,8 @@
 -- Assumes nothing.
 use mathlib.Core.Path.{_≡_, refl, sym, ap, _∙_}
 use mathlib.Core.Logic.{_⊎_, inl, inr, ⊎-elim}
-use mathlib.Core.Bool.{Bool, true, false, cond, not, _&&_, _||_}
-use mathlib.Core.List.{List, [], _∷_}
+use mathlib.Core.Bool.{true, false, _||_}
+use mathlib.Core.List.{List}
 use Prim.Native.Nat.{ℕ, zero, suc, _+_, _≤_, _<_}
 use native.Mathlib.Omega.{arith}
 use lib.Dec.{eqb}
@@ -25,8 +25,8 @@ use Rattle.sets.proofs.LowestMember.{firstIn-found, firstIn-least}
 use Rattle.flow.specs.declared.Flow.{Flow}
 use Rattle.flow.specs.Search.{outIn}
 use Rattle.flow.specs.Routes.{trail}
-use Rattle.flow.proofs.Kept.{one, nowhere, Kept, Valid}
-use Rattle.flow.proofs.Updates.{count-put, one-nowhere, one-true, one-false, one-most, one-is}
+use Rattle.flow.proofs.Kept.{Valid}
+use Rattle.flow.proofs.Updates.{count-put, one-true, one-false, one-most, one-is}
 
 pub count-two : (n : ℕ) (p : Set) (a b : ℕ) → a < n → b < n → In p a → In p b → (a ≡ b → ⊥) → 1 < count n p
 count-two n p a b k l i j o =

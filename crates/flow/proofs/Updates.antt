@@ -6,19 +6,18 @@
 -- Each equation names the server or the step by a test for equality, so that sums of them are closed by arithmetic. Assumes nothing.
 use mathlib.Core.Path.{_≡_, refl, sym, ap, _∙_}
 use mathlib.Core.Bool.{Bool, true, false, cond, not, _&&_, _||_}
-use mathlib.Core.List.{List}
-use Prim.Native.Nat.{ℕ, zero, suc, _+_, _<_}
+use Prim.Native.Nat.{ℕ, _+_, _<_}
 use native.Mathlib.Omega.{arith}
 use lib.Dec.{eqb}
 use lib.ListN.{length, getD, set, length-set}
 use lib.Seq.{getD-set-same, getD-set-other}
 use borrow.Author.Tests.{eqb-true, eqb-false, eq-eqb, ne-eqb, lt-ltb}
-use Rattle.facts.proofs.Bools.{cases, clash}
+use Rattle.facts.proofs.Bools.{cases}
 use Rattle.sets.specs.Sets.{Set, In, Out, has, single, union, minus, count}
 use Rattle.sets.proofs.Members.{has-union, has-minus, has-single}
 use Rattle.sets.proofs.Counts.{count-same, count-without, without}
 use Rattle.flow.specs.declared.Flow.{Flow}
-use Rattle.flow.specs.Search.{outIn, withStart, withEnd, withUse, withoutUse, withStep, withoutStep}
+use Rattle.flow.specs.Search.{outIn, withStep, withoutStep}
 use Rattle.flow.proofs.Kept.{one, nowhere}
 
 -- tests and counts
