@@ -109,10 +109,10 @@ module _ (n f : ℕ) (links : Links) (proper : Proper n f links) (F : ℕ) where
 
       trail-way : (s : ℕ) → Starts φ s → Way s (trail φ r 7 s)
       trail-way s st =
-          let (i, w) = leads rows inner (linkedTo rows W r) (meet sources inner) k φ valid inner-small s st in
+          let (i, w) = leads _ _ _ _ _ φ valid inner-small s st in
           let (t, e) = last-linked rows W r (along φ i s) small (valid .ending (along φ i s) (w .1)) in
           let low = has-below 8 W r small t in
-          let short = leads-short rows inner (linkedTo rows W r) (meet sources inner) k φ valid inner-small s st r i low (minus-self W r low) (w .0) in
+          let short = leads-short _ _ _ _ _ φ valid inner-small s st r i low (minus-self W r low) (w .0) in
           record {
             starts = st;
             size = i;
@@ -130,7 +130,7 @@ module _ (n f : ℕ) (links : Links) (proper : Proper n f links) (F : ℕ) where
         goes j l i h = w .leads .0 i (omega arith)
 
         way-inner : (j : ℕ) → j ≤ w .size → In (has inner) (along φ j s)
-        way-inner j l = valid .passes (along φ j s) (visited rows inner (linkedTo rows W r) (meet sources inner) k φ valid inner-small s (w .starts) j (goes j l))
+        way-inner j l = valid .passes (along φ j s) (visited _ _ _ _ _ φ valid inner-small s (w .starts) j (goes j l))
 
         way-receiver : receiverOf p ≡ r
         way-receiver = let l = w .long in let z : length p - 1 ≡ suc (w .size) = omega arith in rw z (w .end)
@@ -157,7 +157,7 @@ module _ (n f : ℕ) (links : Links) (proper : Proper n f links) (F : ℕ) where
             let early : i ≤ w .size = omega arith in
             let a = w .at i early in
             ⊎-elim
-            (λ m. let q = meeting rows inner (linkedTo rows W r) (meet sources inner) k φ valid inner-small i j s s (w .starts) (w .starts) (goes i early) (goes j m) (sym a ∙ e ∙ w .at j m) in omega arith)
+            (λ m. let q = meeting _ _ _ _ _ φ valid inner-small i j s s (w .starts) (w .starts) (goes i early) (goes j m) (sym a ∙ e ∙ w .at j m) in omega arith)
             (λ m. way-other i early (sym a ∙ e ∙ m))
             (way-place j h)
 
@@ -170,7 +170,7 @@ module _ (n f : ℕ) (links : Links) (proper : Proper n f links) (F : ℕ) where
             let m : suc i ≤ w .size = omega arith in
             let a = w .at i (omega arith) in
             let b = w .at (suc i) m in
-            let h = handed rows inner (linkedTo rows W r) (meet sources inner) k φ valid inner-small s (w .starts) i (goes (suc i) m) in
+            let h = handed _ _ _ _ _ φ valid inner-small s (w .starts) i (goes (suc i) m) in
             rw (a, b) (linked (along φ i s) (along φ (suc i) s) (valid .steps (along φ i s) (along φ (suc i) s) h .0)))
 
         way-route : IsRoute n links F p
@@ -190,7 +190,7 @@ module _ (n f : ℕ) (links : Links) (proper : Proper n f links) (F : ℕ) where
       way-separate s t p q w v o i j l h e =
           ⊎-elim
           (λ m. ⊎-elim
-          (λ x. absurd (o ((meeting rows inner (linkedTo rows W r) (meet sources inner) k φ valid inner-small i j s t (w .starts) (v .starts) (goes s p w i m) (goes t q v j x) (sym (w .at i m) ∙ e ∙ v .at j x)) .1)))
+          (λ x. absurd (o ((meeting _ _ _ _ _ φ valid inner-small i j s t (w .starts) (v .starts) (goes s p w i m) (goes t q v j x) (sym (w .at i m) ∙ e ∙ v .at j x)) .1)))
           (λ x. absurd (way-other s p w i m (sym (w .at i m) ∙ e ∙ x)))
           (way-place t q v j h))
           (λ m. m ∙ sym (way-receiver s p w))

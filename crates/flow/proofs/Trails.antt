@@ -5,7 +5,7 @@
 --     along          the walk from a start, place by place; Goes, it has not ended before place i
 --     visited        each place of it is a server that is passed; handed, each place but the last hands on to the next
 --     meeting        walks from starts that meet have gone the same way
---     leads          a walk from a start ends, and no place of it is r
+--     leads          a walk from a start comes to an end; leads-short, at the seventh server at the latest, where there is one that no route passes
 --     trail-long, trail-at, trail-end   the trail of a walk is its servers and r
 -- Assumes nothing.
 use mathlib.Core.Path.{_≡_, refl, sym, ap, _∙_}
