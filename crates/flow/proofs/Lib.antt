@@ -1,4 +1,12 @@
 -- Kept        flows: what is kept at the two sides of every server
+-- Updates     what each change of a flow changes
+-- Pushed      a search that finds something has a flow with one route more
+-- Trails      the walks from the starts of a flow: they do not meet, and each leads to the receiver
+-- Finding     the routes that the search answers are separate routes from the sources to the receiver
 -- Examples    the search computed on small networks
 pub mod Kept
+pub mod Updates
+pub mod Pushed
+pub mod Trails
+pub mod Finding
 pub mod Examples
