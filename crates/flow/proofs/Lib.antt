@@ -1,4 +1,8 @@
 -- Kept        flows: what is kept at the two sides of every server
+-- Sums        sums over the servers
+-- Closed      a search that finds nothing has seen all that its steps lead to
 -- Examples    the search computed on small networks
 pub mod Kept
+pub mod Sums
+pub mod Closed
 pub mod Examples
