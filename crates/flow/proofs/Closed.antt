@@ -194,15 +194,19 @@ module _ (rows : List ℕ) (inner last : ℕ) (φ : Flow) (try : ℕ → ℕ →
         λ i a b c. cases (eqb i y) (λ q. ih .0 .grown .entered i (rw (eqb-true i y q) (w .1 (rw (eqb-true i y q) at c)))) (λ q. let z = eqb-false i y q in ih .1 i (omega arith) (omega arith) c),
       )
 
+pub ahead-has : (rows : List ℕ) (inner : ℕ) (φ : Flow) (x y : ℕ)
+    → has (ahead rows inner φ x) y ≡ (((has (getD rows x 0) y && has inner y) && not (outIn φ x y)) || (has (φ .used) y && has (single x) y))
+unfolding ahead outIn
+ahead-has rows inner φ x y = simp (has-union, has-minus, has-meet)
+
 -- a flow whose servers are all inner ones
 module _ (rows : List ℕ) (inner last : ℕ) (φ : Flow) (passes : (x : ℕ) → In (has (φ .used)) x → In (has inner) x) where
   ahead-inside : (x y : ℕ) → In (has (ahead rows inner φ x)) y → In (has inner) y
-  unfolding ahead
   ahead-inside x y e =
       ⊎-elim
-      (λ a. and-right (has (getD rows x 0) y) (has inner y) (sym (has-meet (getD rows x 0) inner y) ∙ and-left (has (meet (getD rows x 0) inner) y) (not (has (getD (φ .out) x 0) y)) (sym (has-minus (meet (getD rows x 0) inner) (getD (φ .out) x 0) y) ∙ a)))
-      (λ a. passes y (and-left (has (φ .used) y) (has (single x) y) (sym (has-meet (φ .used) (single x) y) ∙ a)))
-      (or-cases (has (minus (meet (getD rows x 0) inner) (getD (φ .out) x 0)) y) (has (meet (φ .used) (single x)) y) (sym (has-union (minus (meet (getD rows x 0) inner) (getD (φ .out) x 0)) (meet (φ .used) (single x)) y) ∙ e))
+      (λ a. search bools)
+      (λ a. passes y (search bools))
+      (or-cases ((has (getD rows x 0) y && has inner y) && not (outIn φ x y)) (has (φ .used) y && has (single x) y) (sym (ahead-has rows inner φ x y) ∙ e))
 
   -- the leaving side that an entry side leads to is reached for a reason
   behind-reason : (E x : ℕ) → In (has E) x → behind φ x < 8 → Reason φ E (behind φ x)

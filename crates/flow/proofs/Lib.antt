@@ -1,8 +1,10 @@
 -- Kept        flows: what is kept at the two sides of every server
 -- Sums        sums over the servers
 -- Closed      a search that finds nothing has seen all that its steps lead to
+-- Cut         closed marks cut a valid flow, in as many servers as it has routes
 -- Examples    the search computed on small networks
 pub mod Kept
 pub mod Sums
 pub mod Closed
+pub mod Cut
 pub mod Examples
