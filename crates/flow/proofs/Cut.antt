@@ -18,7 +18,7 @@ use lib.ListN.{getD}
 use borrow.Author.Tests.{eq-eqb, lt-ltb}
 use Rattle.facts.proofs.Bools.{cases, clash, is-false, same}
 use Rattle.sets.specs.Sets.{Set, In, Out, has, single, union, meet, minus, count, firstIn}
-use Rattle.sets.proofs.Members.{has-meet, has-union, has-minus, has-single, has-below}
+use Rattle.sets.proofs.Members.{has-meet, has-union, has-minus, has-single}
 use Rattle.sets.proofs.Counts.{count-same, count-none, count-some}
 use Rattle.sets.proofs.LowestMember.{firstIn-found, firstIn-least}
 use Rattle.flow.specs.declared.Flow.{Flow}
@@ -95,13 +95,13 @@ module _ (rows : List ℕ) (inner last sources k : ℕ) (φ : Flow) (v : Valid r
       ⊎-elim (λ h. absurd (omega arith)) (λ h. fed-once (feeder φ y) p y (omega arith) k l h s) (firstIn-found 8 0 (λ (q : ℕ). outIn φ q y))
 
 -- closed marks over a valid flow
-module _ (rows : List ℕ) (inner last sources k : ℕ) (φ : Flow) (v : Valid rows inner last sources k φ) (small : inner < 256)
+module _ (rows : List ℕ) (inner last sources k : ℕ) (φ : Flow) (v : Valid rows inner last sources k φ) (small : (x : ℕ) → In (has inner) x → x < 8)
     (E L : ℕ) (c : Closed rows inner last sources φ E L) where
   entered-below : (x : ℕ) → In (has E) x → x < 8
-  entered-below x e = has-below 8 inner x small (c .inside x e)
+  entered-below x e = small x (c .inside x e)
 
   step-below : (p y : ℕ) → outIn φ p y ≡ true → y < 8
-  step-below p y s = has-below 8 inner y small (v .steps p y s .1)
+  step-below p y s = small y (v .steps p y s .1)
 
   crossed-back : (p y : ℕ) → p < 8 → outIn φ p y ≡ true → In (has E) y → In (has L) p
   unfolding behind
@@ -122,6 +122,14 @@ module _ (rows : List ℕ) (inner last sources k : ℕ) (φ : Flow) (v : Valid r
 
   crossed : (p y : ℕ) → p < 8 → outIn φ p y ≡ true → has E y ≡ has L p
   crossed p y h s = same (has E y) (has L p) (crossed-back p y h s) (crossed-on p y s)
+
+  pub left-inside : (x : ℕ) → In (has L) x → In (has inner) x
+  left-inside x e =
+      let w = c .passed x e in
+      ⊎-elim
+      (λ r. c .inside x (r .0))
+      (λ (r : (y : ℕ) × In (has E) y × (outIn φ x y ≡ true)). v .passes x (hands-used rows inner last sources k φ v x (r .0) (w .below) (step-below x (r .0) (r .2)) (r .2)))
+      (w .reason)
 
   left-quiet : (x : ℕ) → In (has L) x → Out (has (φ .ends)) x
   left-quiet x e =
@@ -160,7 +168,7 @@ module _ (rows : List ℕ) (inner last sources k : ℕ) (φ : Flow) (v : Valid r
       let w = c .passed x e in
       cases (outIn φ x y)
       (λ s. crossed-on x y s e)
-      (λ s. let a = ahead-has rows inner φ x y in w .onward y (has-below 8 inner y small i) (cc))
+      (λ s. let a = ahead-has rows inner φ x y in w .onward y (small y i) (cc))
 
   -- the sums over the sides that are seen
 

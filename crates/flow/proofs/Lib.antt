@@ -2,9 +2,11 @@
 -- Sums        sums over the servers
 -- Closed      a search that finds nothing has seen all that its steps lead to
 -- Cut         closed marks cut a valid flow, in as many servers as it has routes
+-- Cutting     what a search that finds nothing says of the network
 -- Examples    the search computed on small networks
 pub mod Kept
 pub mod Sums
 pub mod Closed
 pub mod Cut
+pub mod Cutting
 pub mod Examples
