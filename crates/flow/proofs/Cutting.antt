@@ -12,6 +12,7 @@ use Prim.Native.Nat.{ℕ, zero, suc, _+_, _-_, _^_, _≤_, _<_}
 use native.Mathlib.Omega.{arith}
 use lib.Dec.{eqb, ltb}
 use lib.ListN.{length, getD}
+use lib.Pow.{pow-mono}
 use borrow.Author.Tests.{ltb-true, eqb-true, eqb-false, eq-eqb, ne-eqb, lt-ltb}
 use Rattle.facts.proofs.Bools.{cases, clash, is-false, and-left, and-right, both, or-false-left, not-true, bools}
 use Rattle.sets.specs.Sets.{Set, In, Out, has, single, union, meet, minus, within, full, count, encode}
@@ -33,6 +34,7 @@ use Rattle.flow.specs.Search.{seek, linkedTo, flowTo}
 use Rattle.flow.specs.Routes.{cutOf, Separated, routes, cut, separateRoutes}
 use Rattle.flow.specs.Theorems.{CutOff, sought, Cuts}
 use Rattle.flow.proofs.Kept.{Kept, Valid}
+use Rattle.flow.proofs.Pushed.{flow-lost}
 use Rattle.flow.proofs.Closed.{Closed, seek-closed}
 use Rattle.flow.proofs.Cut.{left-inside, left-last, link-entered, cut-count}
 
@@ -237,3 +239,37 @@ module _ (n f : ℕ) (links : Links) (p : Proper n f links) (F sources r j : ℕ
     sourceless = λ x e m. clash (has (s .entered) x) (source-entered x (and-left (has sources x) (has (innerOf n F r) x) (sym (has-meet sources (innerOf n F r) x) ∙ e)) (and-right (has sources x) (has (innerOf n F r) x) (sym (has-meet sources (innerOf n F r) x) ∙ e))) (unseen-entered x m);
     few = rw cut-many at (count-mono n (λ (u : ℕ). not (has F u) && incoming n links unseen u) (has (cutOf s)) (λ u h e. incoming-cut w u (sound-in n F u h (search bools)) (search bools)));
   }
+
+-- the flow with k routes, where it is not found
+module _ (n f : ℕ) (links : Links) (p : Proper n f links) (F sources r k : ℕ) where
+  rows-alone : (x : ℕ) → Out (has (getD (rowsIn links) x 0)) x
+  rows-alone x = rows-linked n f links p x x ∙ is-false (linkedIn links x x) (λ e. p .other x x e refl)
+
+  sound-small : sound n F < 256
+  sound-small = let l = minus-small n (full n) F (full-small n) in let t : 2 ^ n ≤ 2 ^ 8 = pow-mono (p .most) in omega arith
+
+  pub lost-cut : (flowTo (rowsOf (linkedIn links)) (minus (full n) F) sources r k) .found ≡ false
+      → CutOff n links F sources r k (cutOf (flowTo (rowsOf (linkedIn links)) (minus (full n) F) sources r k))
+  lost-cut e =
+      let (j, h, φ, v, q) = flow-lost (rowsIn links) (sound n F) sources r k sound-small rows-alone e in
+      cuts-valid n f links p F sources r j φ v (flowTo (rowsIn links) (sound n F) sources r k) q e k h
+
+  pub lost-weak : (flowTo (rowsOf (linkedIn links)) (minus (full n) F) sources r k) .found ≡ false → In (has (minus (full n) F)) r
+      → (j R : ℕ) × (j < k) × Unreached n links F sources r j R
+  lost-weak e w =
+      let (j, h, φ, v, q) = flow-lost (rowsIn links) (sound n F) sources r k sound-small rows-alone e in
+      (j, _, h, cut-weak n f links p F sources r j φ v (flowTo (rowsIn links) (sound n F) sources r k) q e w)
+
+  -- what is answered with a cut was not found, and the cut is that of the search
+  cut-answer : (K : ℕ) → sought n links F sources r k ≡ cut K
+      → ((flowTo (rowsIn links) (sound n F) sources r k) .found ≡ false) × (cutOf (flowTo (rowsIn links) (sound n F) sources r k) ≡ K)
+  unfolding separateRoutes
+  cut-answer K e =
+      cases ((flowTo (rowsIn links) (sound n F) sources r k) .found)
+      (λ g. let z : true ≡ false = cc in clash true refl z)
+      (λ g. (g, cc))
+
+pub cuts : Cuts
+cuts n f links p F sources r k K e =
+    let w = cut-answer n f links p F sources r k K e in
+    rw (w .1) at (lost-cut n f links p F sources r k (w .0))
