@@ -11,21 +11,21 @@
 -- Assumes nothing.
 use mathlib.Core.Path.{_≡_, refl, sym, ap, _∙_}
 use mathlib.Core.Logic.{_⊎_, inl, inr, ⊎-elim}
-use mathlib.Core.Bool.{Bool, true, false, cond, not, _&&_, _||_}
+use mathlib.Core.Bool.{true, false, cond, not, _&&_, _||_}
 use mathlib.Core.List.{List}
-use Prim.Native.Nat.{ℕ, zero, suc, _+_, _-_, _^_, _≤_, _<_}
+use Prim.Native.Nat.{ℕ, zero, suc, _+_, _-_, _≤_, _<_}
 use native.Mathlib.Omega.{arith}
 use lib.Dec.{eqb, ltb}
 use lib.ListN.{getD}
 use borrow.Author.Tests.{ltb-true, ltb-false, eqb-true, eqb-false, eq-eqb, ne-eqb, lt-ltb}
-use Rattle.facts.proofs.Bools.{cases, by-cond, clash, is-false, and-left, and-right, both, and-false-cases, or-cases, or-false-left, not-true, same, bools}
-use Rattle.sets.specs.Sets.{Set, In, Out, has, single, union, meet, minus, count, firstIn}
-use Rattle.sets.proofs.Members.{has-meet, has-union, has-minus, has-empty, has-single, has-below}
+use Rattle.facts.proofs.Bools.{cases, clash, or-cases, bools}
+use Rattle.sets.specs.Sets.{In, Out, has, single, union, count}
+use Rattle.sets.proofs.Members.{has-meet, has-union, has-minus, has-empty, has-single}
 use Rattle.sets.proofs.Counts.{count-same, count-mono, count-le, count-without, without}
 use Rattle.sets.proofs.LowestMember.{firstIn-found}
 use Rattle.flow.specs.declared.Flow.{Flow}
 use Rattle.flow.specs.declared.Sought.{Sought}
-use Rattle.flow.specs.Search.{outIn, lost, reached, changed, feeder, behind, stepIn, stepOut, withStart, withEnd, tries, ahead, enter, leave, sides, seek}
+use Rattle.flow.specs.Search.{outIn, lost, reached, changed, feeder, behind, stepIn, stepOut, withStart, tries, ahead, enter, leave, sides, seek}
 
 -- marks
 
@@ -40,9 +40,6 @@ marked-same E x h =
 
 pub marked-more : (E x i : ℕ) → In (has E) i → In (has (union E (single x))) i
 marked-more E x i e = let a = has-union E (single x) i in cc
-
-pub marked-cases : (E x i : ℕ) → In (has (union E (single x))) i → (i ≡ x) ⊎ In (has E) i
-marked-cases E x i e = ⊎-elim inr (λ s. inl (sym (eqb-true x i (and-right (ltb x 8) (eqb x i) (sym (has-single x i) ∙ s))))) (or-cases (has E i) (has (single x) i) (sym (has-union E (single x) i) ∙ e))
 
 marked-other : (E x i : ℕ) → (i ≡ x → ⊥) → has (union E (single x)) i ≡ has E i
 marked-other E x i o =
@@ -91,6 +88,14 @@ pub record Grown (rows : List ℕ) (inner last : ℕ) (φ : Flow) (E L E′ L′
 pub record Ended (rows : List ℕ) (inner last : ℕ) (φ : Flow) (E L : ℕ) (s : Sought) : Type 0 where
   pub flow : s .flow ≡ φ
   pub grown : Grown rows inner last φ E L (s .entered) (s .left)
+
+-- the same, where it began at the entry side of x
+abbrev EnteredAt : List ℕ → (inner last : ℕ) → Flow → (E L x : ℕ) → Sought → Type 0
+EnteredAt rows inner last φ E L x s = Ended rows inner last φ E L s × In (has (s .entered)) x
+
+-- and where it began at the leaving side of x
+abbrev LeftAt : List ℕ → (inner last : ℕ) → Flow → (E L x : ℕ) → Sought → Type 0
+LeftAt rows inner last φ E L x s = Ended rows inner last φ E L s × In (has (s .left)) x
 
 module _ (rows : List ℕ) (inner last : ℕ) (φ : Flow) where
   reason-more : (E E′ x : ℕ) → ((i : ℕ) → In (has E) i → In (has E′) i) → Reason φ E x → Reason φ E′ x
@@ -157,14 +162,17 @@ changed-lost : (g : Flow → Flow) (s : Sought) → (changed g s) .found ≡ fal
 unfolding changed reached
 changed-lost g s e = cases (s .found) (λ f. clash true refl (rw f at e)) (λ f. (f, rw f refl))
 
+-- so what holds of it where it is not found holds of it with a step more
+lost-on : (P : Sought → Type 0) (g : Flow → Flow) (s : Sought) → (s .found ≡ false → P s) → (changed g s) .found ≡ false → P (changed g s)
+lost-on P g s h e = let l = changed-lost g s e in rw (l .1) (h (l .0))
+
 -- a loop that goes on past t has not found it there
 past : (t r : Sought) → (cond (t .found) t r) .found ≡ false → (t .found ≡ false) × (cond (t .found) t r ≡ r)
 past t r e = cases (t .found) (λ f. clash true refl (rw f at e)) (λ f. (f, rw f refl))
 
 -- a loop over tries each of which, where it finds nothing, ends with grown marks and the side that it began with seen
 module _ (rows : List ℕ) (inner last : ℕ) (φ : Flow) (try : ℕ → ℕ → ℕ → Sought) (choices m : ℕ)
-    (ends : (y E L : ℕ) → y < 8 → In (has choices) y → Out (has E) y → unseen E L < m → (try y E L) .found ≡ false
-    → Ended rows inner last φ E L (try y E L) × In (has ((try y E L) .entered)) y) where
+    (ends : (y E L : ℕ) → y < 8 → In (has choices) y → Out (has E) y → unseen E L < m → (try y E L) .found ≡ false → EnteredAt rows inner last φ E L y (try y E L)) where
   tried : (y : ℕ) → y < 8 → (s : Sought) → s .flow ≡ φ → unseen (s .entered) (s .left) < m
       → (t : Sought) → t ≡ cond (has choices y && not (has (s .entered) y)) (try y (s .entered) (s .left)) s → t .found ≡ false
       → Ended rows inner last φ (s .entered) (s .left) t × (In (has choices) y → In (has (t .entered)) y)
@@ -219,12 +227,12 @@ module _ (rows : List ℕ) (inner last : ℕ) (φ : Flow) (passes : (x : ℕ) �
   abbrev EnterEnded : ℕ → Type 0
   EnterEnded k =
       (E L x : ℕ) → x < 8 → In (has inner) x → Out (has E) x → unseen E L < k → (enter k rows inner last φ E L x) .found ≡ false
-      → Ended rows inner last φ E L (enter k rows inner last φ E L x) × In (has ((enter k rows inner last φ E L x) .entered)) x
+      → EnteredAt rows inner last φ E L x (enter k rows inner last φ E L x)
 
   abbrev LeaveEnded : ℕ → Type 0
   LeaveEnded k =
       (E L x : ℕ) → x < 8 → Reason φ E x → Out (has L) x → unseen E L < k → (leave k rows inner last φ E L x) .found ≡ false
-      → Ended rows inner last φ E L (leave k rows inner last φ E L x) × In (has ((leave k rows inner last φ E L x) .left)) x
+      → LeftAt rows inner last φ E L x (leave k rows inner last φ E L x)
 
   enter-on : (k : ℕ) → LeaveEnded k → EnterEnded (suc k)
   unfolding enter lost
@@ -243,6 +251,13 @@ module _ (rows : List ℕ) (inner last : ℕ) (φ : Flow) (passes : (x : ℕ) �
       let f : Followed φ L x = cases (ltb (behind φ x) 8) (λ a. inr (cases (has L (behind φ x)) (λ b. b) (λ b. cc))) (λ a. inl (ltb-false (behind φ x) 8 a)) in
       rw q (record { flow = refl; grown = grown-enter rows inner last φ E L E′ L x h i f (grown-none rows inner last φ E′ L) }, m))
 
+  -- each try of the loop is such a search
+  next : (k : ℕ) → EnterEnded k → (x y E L : ℕ) → y < 8 → In (has (ahead rows inner φ x)) y → Out (has E) y → unseen E L < k
+      → (changed (stepOut x y) (enter k rows inner last φ E L y)) .found ≡ false
+      → EnteredAt rows inner last φ E L y (changed (stepOut x y) (enter k rows inner last φ E L y))
+  next k ih x y E L h c o u e =
+      lost-on (EnteredAt rows inner last φ E L y) (stepOut x y) (enter k rows inner last φ E L y) (λ f. ih E L y h (ahead-inside x y c) o u f) e
+
   leave-on : (k : ℕ) → EnterEnded k → LeaveEnded (suc k)
   unfolding leave lost reached
   leave-on k ih E L x h r o u e =
@@ -254,7 +269,7 @@ module _ (rows : List ℕ) (inner last : ℕ) (φ : Flow) (passes : (x : ℕ) �
       cases (has last x && not (has (φ .ends) x))
       (λ q. clash true refl (rw q at e))
       (λ q.
-      let w = tries-ended rows inner last φ try (ahead rows inner φ x) k (λ y E L. next y E L) 8 0 (omega arith) (lost φ E L′) refl (omega arith) (rw q at e) in
+      let w = tries-ended rows inner last φ try (ahead rows inner φ x) k (next k ih x) 8 0 (omega arith) (lost φ E L′) refl (omega arith) (rw q at e) in
       let p : Passed rows inner last φ ((tries try (ahead rows inner φ x) 8 0 (lost φ E L′)) .entered) x = record {
         below = h;
         quiet = q;
@@ -262,12 +277,6 @@ module _ (rows : List ℕ) (inner last : ℕ) (φ : Flow) (passes : (x : ℕ) �
         reason = reason-more rows inner last φ E _ x (w .0 .grown .entered) r;
       } in
       rw q (record { flow = w .0 .flow; grown = grown-leave rows inner last φ E L _ _ x p (w .0 .grown) }, w .0 .grown .left x m))
-    where
-      next : (y E L : ℕ) → y < 8 → In (has (ahead rows inner φ x)) y → Out (has E) y → unseen E L < k → (changed (stepOut x y) (enter k rows inner last φ E L y)) .found ≡ false
-          → Ended rows inner last φ E L (changed (stepOut x y) (enter k rows inner last φ E L y)) × In (has ((changed (stepOut x y) (enter k rows inner last φ E L y)) .entered)) y
-      next y E L h c o u e =
-          let l = changed-lost (stepOut x y) (enter k rows inner last φ E L y) e in
-          rw (l .1) (ih E L y h (ahead-inside x y c) o u (l .0))
 
   ended : (k : ℕ) → EnterEnded k × LeaveEnded k
   ended zero = (λ E L x h i o u e. absurd (omega arith), λ E L x h r o u e. absurd (omega arith))
@@ -282,20 +291,21 @@ pub record Closed (rows : List ℕ) (inner last sources : ℕ) (φ : Flow) (E L 
 
 module _ (rows : List ℕ) (inner last sources : ℕ) (φ : Flow) (passes : (x : ℕ) → In (has (φ .used)) x → In (has inner) x)
     (starts : (x : ℕ) → In (has sources) x → In (has inner) x) where
+  first : (y E L : ℕ) → y < 8 → In (has sources) y → Out (has E) y → unseen E L < sides
+      → (changed (withStart y) (enter sides rows inner last φ E L y)) .found ≡ false
+      → EnteredAt rows inner last φ E L y (changed (withStart y) (enter sides rows inner last φ E L y))
+  first y E L h c o u e =
+      lost-on (EnteredAt rows inner last φ E L y) (withStart y) (enter sides rows inner last φ E L y)
+      (λ f. ended rows inner last φ passes sides .0 E L y h (starts y c) o u f) e
+
   seek-ended : (seek rows inner last sources φ) .found ≡ false
       → Ended rows inner last φ 0 0 (seek rows inner last sources φ)
       × ((x : ℕ) → x < 8 → In (has sources) x → In (has ((seek rows inner last sources φ) .entered)) x)
   unfolding seek lost
   seek-ended e =
       let try : ℕ → ℕ → ℕ → Sought = λ x e l. changed (withStart x) (enter sides rows inner last φ e l x) in
-      let w = tries-ended rows inner last φ try sources sides (λ y E L. next y E L) 8 0 (omega arith) (lost φ 0 0) refl (omega arith) e in
+      let w = tries-ended rows inner last φ try sources sides first 8 0 (omega arith) (lost φ 0 0) refl (omega arith) e in
       (w .0, λ x h s. w .1 x (omega arith) (omega arith) s)
-    where
-      next : (y E L : ℕ) → y < 8 → In (has sources) y → Out (has E) y → unseen E L < sides → (changed (withStart y) (enter sides rows inner last φ E L y)) .found ≡ false
-          → Ended rows inner last φ E L (changed (withStart y) (enter sides rows inner last φ E L y)) × In (has ((changed (withStart y) (enter sides rows inner last φ E L y)) .entered)) y
-      next y E L h c o u e =
-          let l = changed-lost (withStart y) (enter sides rows inner last φ E L y) e in
-          rw (l .1) (ended rows inner last φ passes sides .0 E L y h (starts y c) o u (l .0))
 
   pub seek-same : (seek rows inner last sources φ) .found ≡ false → (seek rows inner last sources φ) .flow ≡ φ
   seek-same e = seek-ended e .0 .flow

@@ -7,25 +7,24 @@
 --     link-entered               a link from a seen leaving side leads to a seen entry side
 --     cut-count                  the cut has as many servers as there are routes
 -- Assumes nothing.
-use mathlib.Core.Path.{_≡_, refl, sym, ap, _∙_}
-use mathlib.Core.Logic.{_⊎_, inl, inr, ⊎-elim}
-use mathlib.Core.Bool.{Bool, true, false, cond, not, _&&_, _||_}
+use mathlib.Core.Path.{_≡_, refl}
+use mathlib.Core.Logic.{⊎-elim}
+use mathlib.Core.Bool.{Bool, true, false, not, _&&_}
 use mathlib.Core.List.{List}
-use Prim.Native.Nat.{ℕ, zero, suc, _+_, _-_, _^_, _≤_, _<_}
+use Prim.Native.Nat.{ℕ, _+_, _≤_, _<_}
 use native.Mathlib.Omega.{arith}
-use lib.Dec.{eqb, ltb}
 use lib.ListN.{getD}
 use borrow.Author.Tests.{eq-eqb, lt-ltb}
 use Rattle.facts.proofs.Bools.{cases, clash, is-false, same}
-use Rattle.sets.specs.Sets.{Set, In, Out, has, single, union, meet, minus, count, firstIn}
-use Rattle.sets.proofs.Members.{has-meet, has-union, has-minus, has-single}
+use Rattle.sets.specs.Sets.{In, Out, has, minus, count}
+use Rattle.sets.proofs.Members.{has-minus, has-single}
 use Rattle.sets.proofs.Counts.{count-same, count-none, count-some}
 use Rattle.sets.proofs.LowestMember.{firstIn-found, firstIn-least}
 use Rattle.flow.specs.declared.Flow.{Flow}
 use Rattle.flow.specs.Search.{outIn, feeder, behind, ahead}
-use Rattle.flow.proofs.Kept.{one, Kept, Valid, nowhere}
+use Rattle.flow.proofs.Kept.{one, Valid, nowhere}
 use Rattle.flow.proofs.Sums.{sum, sum-same, sum-add, sum-swap, count-sum, count-one}
-use Rattle.flow.proofs.Closed.{ahead-has, Reason, Followed, Passed, Closed}
+use Rattle.flow.proofs.Closed.{ahead-has, Closed}
 
 one-most : (b : Bool) → one b ≤ 1
 unfolding one

@@ -1,12 +1,14 @@
 -- What a search that finds nothing says of the network, where it began from a valid flow of j routes.
+--     Unreached     what holds of the servers that the search did not come to
 --     cuts-valid    the cut has j servers, and every route from a source to the receiver meets it: its source has its entry side seen, and from a seen
 --                   leaving side it goes on to a seen entry side, never to the receiver
 --     cut-weak      the servers of V−F of which neither side was seen are a set with the receiver and no source that has at most j incoming neighbours
 --                   outside F: these are all in the cut
+--     lost-cut, lost-weak    both for the search for k routes, from no routes on, with a j below k
+--     cuts          the servers that the search answers cut off every route
 -- Assumes nothing.
 use mathlib.Core.Path.{_≡_, refl, sym, ap, _∙_}
-use mathlib.Core.Logic.{_⊎_, inl, inr, ⊎-elim}
-use mathlib.Core.Bool.{Bool, true, false, cond, not, _&&_, _||_}
+use mathlib.Core.Bool.{true, false, not, _&&_, _||_}
 use mathlib.Core.List.{List}
 use Prim.Native.Nat.{ℕ, zero, suc, _+_, _-_, _^_, _≤_, _<_}
 use native.Mathlib.Omega.{arith}
@@ -15,13 +17,13 @@ use lib.ListN.{length, getD}
 use lib.Pow.{pow-mono}
 use borrow.Author.Tests.{ltb-true, eqb-true, eqb-false, eq-eqb, ne-eqb, lt-ltb}
 use Rattle.facts.proofs.Bools.{cases, clash, is-false, and-left, and-right, both, or-false-left, not-true, bools}
-use Rattle.sets.specs.Sets.{Set, In, Out, has, single, union, meet, minus, within, full, count, encode}
-use Rattle.sets.proofs.Members.{has-meet, has-union, has-minus, has-empty, has-single, has-full, full-small, minus-small, encode-has, in-within, below-power}
+use Rattle.sets.specs.Sets.{In, Out, has, single, union, meet, minus, within, full, count, encode}
+use Rattle.sets.proofs.Members.{has-meet, has-union, has-minus, has-single, has-full, full-small, minus-small, encode-has, in-within, below-power}
 use Rattle.sets.proofs.Counts.{count-mono, count-beyond}
 use Rattle.network.specs.Links.{Links, linkedIn}
 use Rattle.network.specs.Rows.{rowsOf}
 use Rattle.network.specs.Proper.{Proper}
-use Rattle.network.specs.Split.{someBelow, incoming}
+use Rattle.network.specs.Split.{incoming}
 use Rattle.network.specs.Weak.{outside}
 use Rattle.network.proofs.LinkRows.{rows-linked}
 use Rattle.network.proofs.Neighbours.{some-at}
@@ -31,9 +33,9 @@ use Rattle.rules.specs.Routable.{Passes}
 use Rattle.flow.specs.declared.Flow.{Flow}
 use Rattle.flow.specs.declared.Sought.{Sought}
 use Rattle.flow.specs.Search.{seek, linkedTo, flowTo}
-use Rattle.flow.specs.Routes.{cutOf, Separated, routes, cut, separateRoutes}
+use Rattle.flow.specs.Routes.{cutOf, cut, separateRoutes}
 use Rattle.flow.specs.Theorems.{CutOff, sought, Cuts}
-use Rattle.flow.proofs.Kept.{Kept, Valid}
+use Rattle.flow.proofs.Kept.{Valid}
 use Rattle.flow.proofs.Pushed.{flow-lost}
 use Rattle.flow.proofs.Closed.{Closed, seek-closed}
 use Rattle.flow.proofs.Cut.{left-inside, left-last, link-entered, cut-count}
@@ -68,11 +70,13 @@ module _ (n F : ℕ) where
 
     inner-other : n ≤ 8 → (x : ℕ) → In (has (innerOf n F r)) x → x ≡ r → ⊥
     inner-other h x e q =
-        let a = sound-below x (inner-sound x e) in
+        let i = inner-sound x e in
+        let a = sound-below x i in
         let b = has-single r x in
         let c = lt-ltb r 8 (omega arith) in
         let d = eq-eqb r x (sym q) in
-        clash (has (single r) x) (cc) (not-true (has (single r) x) (and-right (has (sound n F) x) (not (has (single r) x)) (sym (has-minus (sound n F) (single r) x) ∙ e)))
+        let m = has-minus (sound n F) (single r) x in
+        clash (has (innerOf n F r) x) e (cc)
 
     inner-in : (x : ℕ) → In (has (sound n F)) x → (x ≡ r → ⊥) → In (has (innerOf n F r)) x
     inner-in x e o =
@@ -80,6 +84,12 @@ module _ (n F : ℕ) where
         let b = has-single r x in
         let c = ne-eqb r x (λ q. o (sym q)) in
         cases (ltb r 8) (λ l. cc) (λ l. cc)
+
+    source-inner : (sources x : ℕ) → In (has (sourcesOf n F sources r)) x → In (has (innerOf n F r)) x
+    source-inner sources x e = and-right (has sources x) (has (innerOf n F r) x) (sym (has-meet sources (innerOf n F r) x) ∙ e)
+
+    source-in : (sources x : ℕ) → In (has sources) x → In (has (innerOf n F r)) x → In (has (sourcesOf n F sources r)) x
+    source-in sources x e i = has-meet sources (innerOf n F r) x ∙ both (has sources x) (has (innerOf n F r) x) e i
 
 module _ (n f : ℕ) (links : Links) (p : Proper n f links) (F r : ℕ) where
   last-in : (x : ℕ) → In (has (sound n F)) r → In (has (innerOf n F r)) x → linkedIn links x r ≡ true → In (has (lastOf n links F r)) x
@@ -111,17 +121,13 @@ module _ (n f : ℕ) (links : Links) (p : Proper n f links) (F sources r j : ℕ
     (s : Sought) (is : seek (rowsIn links) (innerOf n F r) (lastOf n links F r) (sourcesOf n F sources r) φ ≡ s) (none : s .found ≡ false) where
   closed : Closed (rowsIn links) (innerOf n F r) (lastOf n links F r) (sourcesOf n F sources r) φ (s .entered) (s .left)
   closed =
-      rw is at (seek-closed (rowsIn links) (innerOf n F r) (lastOf n links F r) (sourcesOf n F sources r) φ (v .passes) (λ x e. source-inner x e) (rw is none))
-    where
-      source-inner : (x : ℕ) → In (has (sourcesOf n F sources r)) x → In (has (innerOf n F r)) x
-      source-inner x e = and-right (has sources x) (has (innerOf n F r) x) (sym (has-meet sources (innerOf n F r) x) ∙ e)
+      rw is at (seek-closed (rowsIn links) (innerOf n F r) (lastOf n links F r) (sourcesOf n F sources r) φ (v .passes) (source-inner n F r sources) (rw is none))
 
   inner-below : (x : ℕ) → In (has (innerOf n F r)) x → x < 8
   inner-below x e = let a = sound-below n F x (inner-sound n F r x e) in let m = p .most in omega arith
 
-  -- the source of a route has its entry side seen
-  source-entered : (x : ℕ) → In (has sources) x → In (has (innerOf n F r)) x → In (has (s .entered)) x
-  source-entered x e i = closed .begun x (inner-below x i) (has-meet sources (innerOf n F r) x ∙ both (has sources x) (has (innerOf n F r) x) e i)
+  source-entered : (x : ℕ) → In (has (sourcesOf n F sources r)) x → In (has (s .entered)) x
+  source-entered x e = closed .begun x (inner-below x (source-inner n F r sources x e)) e
 
   -- a link from a seen leaving side leads to a seen entry side
   linked-entered : (x y : ℕ) → In (has (s .left)) x → In (has (innerOf n F r)) y → linkedIn links x y ≡ true → In (has (s .entered)) y
@@ -182,7 +188,7 @@ module _ (n f : ℕ) (links : Links) (p : Proper n f links) (F sources r j : ℕ
         (λ l. (getD q k 0, cut-in (getD q k 0) e l, (k, omega arith, refl)))
 
     met-source : In (has sources) (sourceOf q) → (x : ℕ) × In (has (cutOf s)) x × Passes q x
-    met-source e = let t = i .two in met-from (length q - 2) 0 (omega arith) (source-entered (sourceOf q) e (on-inner 0 (omega arith)))
+    met-source e = let t = i .two in met-from (length q - 2) 0 (omega arith) (source-entered (sourceOf q) (source-in n F r sources (sourceOf q) e (on-inner 0 (omega arith))))
 
   pub cuts-valid : (k : ℕ) → j < k → CutOff n links F sources r k (cutOf s)
   cuts-valid k h = record {
@@ -230,14 +236,17 @@ module _ (n f : ℕ) (links : Links) (p : Proper n f links) (F sources r j : ℕ
       (λ l. absurd (unseen-unlinked w u y l (and-left (has unseen y) (linkedIn links u y) b) (and-right (has unseen y) (linkedIn links u y) b)))
       (λ l. cases (has (s .entered) u) (λ d. cut-in u d l) (λ d. cc))
 
+  in-cut : In (has (sound n F)) r → (u : ℕ) → u < n → Out (has F) u → incoming n links unseen u ≡ true → In (has (cutOf s)) u
+  in-cut w u h o e = incoming-cut w u (sound-in n F u h o) e
+
   pub cut-weak : In (has (minus (full n) F)) r → Unreached n links F sources r j (minus (minus (full n) F) (union (s .entered) (s .left)))
   unfolding outside
   cut-weak w = record {
     receiver = unseen-receiver w;
     small = minus-small n (minus (full n) F) (union (s .entered) (s .left)) (minus-small n (full n) F (full-small n));
     inside = within-all unseen (minus (full n) F) unseen-sound;
-    sourceless = λ x e m. clash (has (s .entered) x) (source-entered x (and-left (has sources x) (has (innerOf n F r) x) (sym (has-meet sources (innerOf n F r) x) ∙ e)) (and-right (has sources x) (has (innerOf n F r) x) (sym (has-meet sources (innerOf n F r) x) ∙ e))) (unseen-entered x m);
-    few = rw cut-many at (count-mono n (λ (u : ℕ). not (has F u) && incoming n links unseen u) (has (cutOf s)) (λ u h e. incoming-cut w u (sound-in n F u h (search bools)) (search bools)));
+    sourceless = λ x e m. clash (has (s .entered) x) (source-entered x e) (unseen-entered x m);
+    few = rw cut-many at (count-mono n (λ (u : ℕ). not (has F u) && incoming n links unseen u) (has (cutOf s)) (λ u h e. in-cut w u h (search bools) (search bools)));
   }
 
 -- the flow with k routes, where it is not found
