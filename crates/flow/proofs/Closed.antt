@@ -9,7 +9,7 @@
 --     ended         the search from an entry side and from a leaving side with an allowance k
 --     Closed, seek-closed    the marks of a whole search that finds nothing; seek-same, the flow is as it was
 -- Assumes nothing.
-use mathlib.Core.Path.{_≡_, refl, sym, ap, _∙_}
+use mathlib.Core.Path.{_≡_, refl, sym, _∙_}
 use mathlib.Core.Logic.{_⊎_, inl, inr, ⊎-elim}
 use mathlib.Core.Bool.{true, false, cond, not, _&&_, _||_}
 use mathlib.Core.List.{List}
@@ -17,28 +17,24 @@ use Prim.Native.Nat.{ℕ, zero, suc, _+_, _-_, _≤_, _<_}
 use native.Mathlib.Omega.{arith}
 use lib.Dec.{eqb, ltb}
 use lib.ListN.{getD}
-use borrow.Author.Tests.{ltb-true, ltb-false, eqb-true, eqb-false, eq-eqb, ne-eqb, lt-ltb}
+use borrow.Author.Tests.{ltb-true, ltb-false, eqb-true, eqb-false, ne-eqb}
 use Rattle.facts.proofs.Bools.{cases, clash, or-cases, bools}
 use Rattle.sets.specs.Sets.{In, Out, has, single, union, count}
 use Rattle.sets.proofs.Members.{has-meet, has-union, has-minus, has-empty, has-single}
-use Rattle.sets.proofs.Counts.{count-same, count-mono, count-le, count-without, without}
+use Rattle.sets.proofs.Counts.{count-mono, count-le}
 use Rattle.sets.proofs.LowestMember.{firstIn-found}
 use Rattle.flow.specs.declared.Flow.{Flow}
 use Rattle.flow.specs.declared.Sought.{Sought}
 use Rattle.flow.specs.Search.{outIn, lost, reached, changed, feeder, behind, stepIn, stepOut, withStart, tries, ahead, enter, leave, sides, seek}
+use Rattle.flow.proofs.Updates.{eqb-self, has-put, count-start}
 
 -- marks
 
 -- the marks with x are those of before and x
-pub marked-same : (E x : ℕ) → x < 8 → In (has (union E (single x))) x
-marked-same E x h =
-    let a = has-union E (single x) x in
-    let b = has-single x x in
-    let c = lt-ltb x 8 h in
-    let d = eq-eqb x x refl in
-    cases (has E x) (λ e. cc) (λ e. cc)
+marked-same : (E x : ℕ) → x < 8 → In (has (union E (single x))) x
+marked-same E x h = let a = has-put E x x h in let b = eqb-self x in cc
 
-pub marked-more : (E x i : ℕ) → In (has E) i → In (has (union E (single x))) i
+marked-more : (E x i : ℕ) → In (has E) i → In (has (union E (single x))) i
 marked-more E x i e = let a = has-union E (single x) i in cc
 
 marked-other : (E x i : ℕ) → (i ≡ x → ⊥) → has (union E (single x)) i ≡ has E i
@@ -47,15 +43,6 @@ marked-other E x i o =
     let b = has-single x i in
     let c = ne-eqb x i (λ e. o (sym e)) in
     cases (has E i) (λ e. cc) (λ e. cases (ltb x 8) (λ l. cc) (λ l. cc))
-
--- one side more is seen
-marked-count : (E x : ℕ) → x < 8 → Out (has E) x → count 8 (has (union E (single x))) ≡ suc (count 8 (has E))
-marked-count E x h o =
-    count-without 8 x (has (union E (single x))) h (marked-same E x h)
-    ∙ ap suc (count-same 8 (without x (has (union E (single x)))) (has E) (λ i k. rest i))
-  where
-    rest : (i : ℕ) → (not (eqb i x) && has (union E (single x)) i) ≡ has E i
-    rest i = cases (eqb i x) (λ e. let z : has E i ≡ false = rw (eqb-true i x e) o in cc) (λ e. let z = marked-other E x i (eqb-false i x e) in cc)
 
 -- how many sides are not seen
 abbrev unseen : ℕ → ℕ → ℕ
@@ -238,7 +225,7 @@ module _ (rows : List ℕ) (inner last : ℕ) (φ : Flow) (passes : (x : ℕ) �
   unfolding enter lost
   enter-on k ih E L x h i o u e =
       let E′ = union E (single x) in
-      let c = marked-count E x h o in
+      let c = count-start E x h o in
       let n = count-le 8 (has E′) in
       let m = marked-same E x h in
       cases (ltb (behind φ x) 8 && not (has L (behind φ x)))
@@ -262,7 +249,7 @@ module _ (rows : List ℕ) (inner last : ℕ) (φ : Flow) (passes : (x : ℕ) �
   unfolding leave lost reached
   leave-on k ih E L x h r o u e =
       let L′ = union L (single x) in
-      let c = marked-count L x h o in
+      let c = count-start L x h o in
       let n = count-le 8 (has L′) in
       let m = marked-same L x h in
       let try : ℕ → ℕ → ℕ → Sought = λ y e l. changed (stepOut x y) (enter k rows inner last φ e l y) in

@@ -9,7 +9,7 @@
 -- Assumes nothing.
 use mathlib.Core.Path.{_≡_, refl}
 use mathlib.Core.Logic.{⊎-elim}
-use mathlib.Core.Bool.{Bool, true, false, not, _&&_}
+use mathlib.Core.Bool.{true, not, _&&_}
 use mathlib.Core.List.{List}
 use Prim.Native.Nat.{ℕ, _+_, _≤_, _<_}
 use native.Mathlib.Omega.{arith}
@@ -23,22 +23,9 @@ use Rattle.sets.proofs.LowestMember.{firstIn-found, firstIn-least}
 use Rattle.flow.specs.declared.Flow.{Flow}
 use Rattle.flow.specs.Search.{outIn, feeder, behind, ahead}
 use Rattle.flow.proofs.Kept.{one, Valid, nowhere}
+use Rattle.flow.proofs.Updates.{one-most, one-true, one-is}
 use Rattle.flow.proofs.Sums.{sum, sum-same, sum-add, sum-swap, count-sum, count-one}
 use Rattle.flow.proofs.Closed.{ahead-has, Closed}
-
-one-most : (b : Bool) → one b ≤ 1
-unfolding one
-one-most true = omega arith
-one-most false = omega arith
-
-one-some : (b : Bool) → 0 < one b → b ≡ true
-unfolding one
-one-some true h = refl
-one-some false h = absurd (omega arith)
-
-one-true : (b : Bool) → b ≡ true → one b ≡ 1
-unfolding one
-one-true b e = rw e refl
 
 -- a valid flow at one side
 module _ (rows : List ℕ) (inner last sources k : ℕ) (φ : Flow) (v : Valid rows inner last sources k φ) where
@@ -54,7 +41,7 @@ module _ (rows : List ℕ) (inner last sources k : ℕ) (φ : Flow) (v : Valid r
   fed-used p y k l s =
       let e = entry-is y l in
       let c = count-some 8 (λ (p : ℕ). outIn φ p y) p k s in
-      one-some (has (φ .used) y) (omega arith)
+      one-is (has (φ .used) y) (omega arith)
 
   fed-once : (p q y : ℕ) → p < 8 → q < 8 → y < 8 → outIn φ p y ≡ true → outIn φ q y ≡ true → p ≡ q
   fed-once p q y k l h s t =
@@ -66,7 +53,7 @@ module _ (rows : List ℕ) (inner last sources k : ℕ) (φ : Flow) (v : Valid r
   hands-used p y k l s =
       let e = leaving-is p k in
       let c = count-some 8 (outIn φ p) y l s in
-      one-some (has (φ .used) p) (omega arith)
+      one-is (has (φ .used) p) (omega arith)
 
   hands-once : (p y z : ℕ) → p < 8 → y < 8 → z < 8 → outIn φ p y ≡ true → outIn φ p z ≡ true → y ≡ z
   hands-once p y z h k l s t =
@@ -76,7 +63,7 @@ module _ (rows : List ℕ) (inner last sources k : ℕ) (φ : Flow) (v : Valid r
 
   -- where a route goes to the receiver it goes nowhere else
   ends-used : (x : ℕ) → x < 8 → In (has (φ .ends)) x → In (has (φ .used)) x
-  ends-used x h t = let e = leaving-is x h in let o = one-true (has (φ .ends) x) t in one-some (has (φ .used) x) (omega arith)
+  ends-used x h t = let e = leaving-is x h in let o = one-true (has (φ .ends) x) t in one-is (has (φ .used) x) (omega arith)
 
   ends-none : (x y : ℕ) → x < 8 → y < 8 → In (has (φ .ends)) x → outIn φ x y ≡ true → ⊥
   ends-none x y h l t s =

@@ -7,24 +7,24 @@
 --     flow-valid      the flow with k routes, where one is found
 --     flow-lost       where none is: the search that found no more, from a flow with fewer
 -- Assumes nothing.
-use mathlib.Core.Path.{_≡_, refl, sym, ap, _∙_}
-use mathlib.Core.Logic.{_⊎_, inl, inr, ⊎-elim}
-use mathlib.Core.Bool.{Bool, true, false, cond, not, _&&_, _||_}
+use mathlib.Core.Path.{_≡_, refl, sym, _∙_}
+use mathlib.Core.Logic.{_⊎_, ⊎-elim}
+use mathlib.Core.Bool.{true, false, cond, not, _&&_}
 use mathlib.Core.List.{List}
 use Prim.Native.Nat.{ℕ, zero, suc, _+_, _<_}
 use native.Mathlib.Omega.{arith}
 use lib.Dec.{eqb, ltb}
-use lib.ListN.{length, getD, set, replicate}
-use borrow.Author.Tests.{eqb-true, eqb-false, ne-eqb, ltb-true}
+use lib.ListN.{getD, replicate}
+use borrow.Author.Tests.{eqb-true, ne-eqb, ltb-true}
 use Rattle.facts.proofs.Bools.{cases, by-cond, clash, and-left, and-right, not-true, is-false, or-cases, bools}
-use Rattle.sets.specs.Sets.{Set, In, Out, has, single, union, meet, minus, count}
+use Rattle.sets.specs.Sets.{Set, In, Out, has, single, union, meet, minus}
 use Rattle.sets.proofs.Members.{has-union, has-meet, has-minus, has-single, has-empty, has-below, minus-small}
 use Rattle.sets.proofs.Counts.{count-none}
 use Rattle.sets.proofs.LowestMember.{firstIn-found}
 use Rattle.flow.specs.declared.Flow.{Flow}
 use Rattle.flow.specs.declared.Sought.{Sought}
 use Rattle.flow.specs.Search.{noFlow, outIn, withStart, withEnd, withUse, withoutUse, withStep, withoutStep, lost, reached, changed, feeder, behind, stepIn, stepOut, tries, ahead, enter, leave, sides, seek, seekAll, linkedTo, flowTo}
-use Rattle.flow.proofs.Kept.{one, nowhere, Kept, Valid}
+use Rattle.flow.proofs.Kept.{nowhere, Kept, Valid}
 use Rattle.flow.proofs.Updates.{eqb-self, eqb-swap, one-nowhere, one-true, one-false, one-most, one-is, has-put, has-drop, one-put, one-drop, count-start, step-long, unstep-long, step-put, step-drop, into-put, from-put, into-drop, from-drop}
 
 module _ (rows : List ℕ) (inner last sources k : ℕ) where
@@ -234,7 +234,7 @@ module _ (rows : List ℕ) (inner last sources k : ℕ) (φ : Flow) (valid : Val
     abbrev low : x < 8
     low = has-below 8 inner x small i
 
-    module _ (t : Sought) (h : Push mark L nowhere (eqb (behind φ x)) t) (below : behind φ x < 8) (open′ : Out (has L) (behind φ x)) (f : t .found ≡ true) where
+    module _ (t : Sought) (h : Push mark L nowhere (eqb (behind φ x)) t) (below : behind φ x < 8) (clear : Out (has L) (behind φ x)) (f : t .found ≡ true) where
       push-use : eqb (behind φ x) x ≡ true → Push E L (eqb x) nowhere (reached (withUse x (t .flow)) (t .entered) (t .left))
       unfolding reached withUse outIn
       push-use e =
@@ -246,7 +246,7 @@ module _ (rows : List ℕ) (inner last sources k : ℕ) (φ : Flow) (valid : Val
             used = λ z j. let a = has-put (t .flow .used) x z low in let b = other E x z fresh j in let c = h .used z (put-in E x z j) in cc;
             into = λ p z j. h .into p z (put-in E x z j);
             from = h .from;
-            kept = λ y. use-moves rows inner last sources k x low (t .flow) i o (rw q at (h .kept f));
+            kept = λ y. use-moves _ _ _ _ _ x low (t .flow) i o (rw q at (h .kept f));
           }
 
       push-unstep : eqb (behind φ x) x ≡ false → Push E L (eqb x) nowhere (reached (withoutStep (behind φ x) x (t .flow)) (t .entered) (t .left))
@@ -260,8 +260,8 @@ module _ (rows : List ℕ) (inner last sources k : ℕ) (φ : Flow) (valid : Val
             left = h .left;
             used = λ z j. h .used z (put-in E x z j);
             into = λ p z j. let a = d p z in let b = other E x z fresh j in let c = h .into p z (put-in E x z j) in cases (eqb (behind φ x) p) (λ u. cc) (λ u. cc);
-            from = λ p z j. let a = d p z in let b = other L (behind φ x) p open′ j in let c = h .from p z j in cc;
-            kept = λ y. unstep-moves rows inner last sources k (behind φ x) below (t .flow) x low o n;
+            from = λ p z j. let a = d p z in let b = other L (behind φ x) p clear j in let c = h .from p z j in cc;
+            kept = λ y. unstep-moves _ _ _ _ _ (behind φ x) below (t .flow) x low o n;
           }
 
       push-in : Push E L (eqb x) nowhere (reached (stepIn x (behind φ x) (t .flow)) (t .entered) (t .left))
@@ -323,7 +323,7 @@ module _ (rows : List ℕ) (inner last sources k : ℕ) (φ : Flow) (valid : Val
       used = λ z j. refl;
       into = λ p z j. refl;
       from = λ p z j. refl;
-      kept = λ y. end-moves rows inner last sources k x low φ i o valid;
+      kept = λ y. end-moves _ _ _ _ _ x low φ i o valid;
     }
 
     -- after each try x is marked
@@ -346,7 +346,7 @@ module _ (rows : List ℕ) (inner last sources k : ℕ) (φ : Flow) (valid : Val
               used = λ z j. let a = has-drop (t .flow .used) x z low in let b : eqb x z ≡ false = rw (← q) (unseen z j) in let d = h .used z (g .0 .entered z j) in cc;
               into = λ p z j. h .into p z (g .0 .entered z j);
               from = λ p z j. h .from p z (g .0 .left p j);
-              kept = λ u. unuse-moves rows inner last sources k x low (t .flow) (rw q at (h .kept f));
+              kept = λ u. unuse-moves _ _ _ _ _ x low (t .flow) (rw q at (h .kept f));
             }
 
         push-step : eqb y x ≡ false → Push E L nowhere (eqb x) (reached (withStep x y (t .flow)) (t .entered) (t .left))
@@ -362,7 +362,7 @@ module _ (rows : List ℕ) (inner last sources k : ℕ) (φ : Flow) (valid : Val
               used = λ z j. h .used z (g .0 .entered z j);
               into = λ p z j. let a = d p z in let b = unseen z j in let v = h .into p z (g .0 .entered z j) in cases (eqb x p) (λ u. cc) (λ u. cc);
               from = λ p z j. let a = d p z in let b = other L x p fresh j in let v = h .from p z (g .0 .left p j) in cc;
-              kept = λ u. step-moves rows inner last sources k x low (t .flow) y below r i (h .from x y (g .1) ∙ o) n;
+              kept = λ u. step-moves _ _ _ _ _ x low (t .flow) y below r i (h .from x y (g .1) ∙ o) n;
             }
 
         push-out : Push E L nowhere (eqb x) (reached (stepOut x y (t .flow)) (t .entered) (t .left))
@@ -407,7 +407,7 @@ module _ (rows : List ℕ) (inner last sources k : ℕ) (φ : Flow) (valid : Val
       (λ x s q c new. let i = within x c in
       let t = enter sides rows inner last φ (s .entered) (s .left) x in
       let h = (search-pushes sides) .0 (s .entered) (s .left) x i new in
-      changed-holds (withStart x) t Q (λ f y. start-moves rows inner last sources k x (has-below 8 inner x small i) (t .flow) c (h .kept f)) (λ n y. clash (t .found) y n))
+      changed-holds (withStart x) t Q (λ f y. start-moves _ _ _ _ _ x (has-below 8 inner x small i) (t .flow) c (h .kept f)) (λ n y. clash (t .found) y n))
       8 0 (lost φ 0 0) (λ y. clash false y refl)
 
 -- one search after the other

@@ -6,19 +6,18 @@
 -- Each equation names the server or the step by a test for equality, so that sums of them are closed by arithmetic. Assumes nothing.
 use mathlib.Core.Path.{_≡_, refl, sym, ap, _∙_}
 use mathlib.Core.Bool.{Bool, true, false, cond, not, _&&_, _||_}
-use mathlib.Core.List.{List}
-use Prim.Native.Nat.{ℕ, zero, suc, _+_, _<_}
+use Prim.Native.Nat.{ℕ, _+_, _<_}
 use native.Mathlib.Omega.{arith}
 use lib.Dec.{eqb}
 use lib.ListN.{length, getD, set, length-set}
 use lib.Seq.{getD-set-same, getD-set-other}
 use borrow.Author.Tests.{eqb-true, eqb-false, eq-eqb, ne-eqb, lt-ltb}
-use Rattle.facts.proofs.Bools.{cases, clash}
+use Rattle.facts.proofs.Bools.{cases}
 use Rattle.sets.specs.Sets.{Set, In, Out, has, single, union, minus, count}
 use Rattle.sets.proofs.Members.{has-union, has-minus, has-single}
 use Rattle.sets.proofs.Counts.{count-same, count-without, without}
 use Rattle.flow.specs.declared.Flow.{Flow}
-use Rattle.flow.specs.Search.{outIn, withStart, withEnd, withUse, withoutUse, withStep, withoutStep}
+use Rattle.flow.specs.Search.{outIn, withStep, withoutStep}
 use Rattle.flow.proofs.Kept.{one, nowhere}
 
 -- tests and counts
@@ -74,6 +73,24 @@ pub one-is : (b : Bool) → 0 < one b → b ≡ true
 unfolding one
 one-is true h = refl
 one-is false h = absurd (omega arith)
+
+-- the same where b holds; else nothing changes
+
+count-put-if : (n x : ℕ) (b : Bool) (p q : Set) → x < n → (b ≡ true → Out p x) → ((i : ℕ) → i < n → q i ≡ (eqb x i && b || p i)) → count n q ≡ count n p + one b
+unfolding one
+count-put-if n x true p q k o h = count-put n x p q k (o refl) (λ i l. let a = h i l in cases (eqb x i) (λ e. cc) (λ e. cc))
+count-put-if n x false p q k o h = let s = count-same n q p (λ i l. let a = h i l in cases (eqb x i) (λ e. cc) (λ e. cc)) in omega arith
+
+count-drop-if : (n x : ℕ) (b : Bool) (p q : Set) → x < n → (b ≡ true → In p x) → ((i : ℕ) → i < n → q i ≡ (not (eqb x i && b) && p i)) → count n q + one b ≡ count n p
+unfolding one
+count-drop-if n x true p q k o h = count-drop n x p q k (o refl) (λ i l. let a = h i l in cases (eqb x i) (λ e. cc) (λ e. cc))
+count-drop-if n x false p q k o h = let s = count-same n q p (λ i l. let a = h i l in cases (eqb x i) (λ e. cc) (λ e. cc)) in omega arith
+
+and-swap : (a b : Bool) → a && b ≡ b && a
+and-swap true true = refl
+and-swap true false = refl
+and-swap false true = refl
+and-swap false false = refl
 
 -- a set with one server more
 
@@ -156,31 +173,27 @@ module _ (x y : ℕ) (k : x < 8) (l : y < 8) (φ : Flow) (long : length (φ .out
   -- the steps to z and the steps from p, where the step from x to y is new
   module _ (new : outIn φ x y ≡ false) where
     pub into-put : (z : ℕ) → count 8 (λ (p : ℕ). outIn (withStep x y φ) p z) ≡ count 8 (λ (p : ℕ). outIn φ p z) + one (eqb y z)
-    unfolding one
     into-put z =
-        cases (eqb y z)
-        (λ e. let q = eqb-true y z e in rw e (count-put 8 x (λ (p : ℕ). outIn φ p z) (λ (p : ℕ). outIn (withStep x y φ) p z) k (rw (← q) new) (λ p h. let a = step-put p z in cases (eqb x p) (λ f. cc) (λ f. cc))))
-        (λ e. rw e (let s = count-same 8 (λ (p : ℕ). outIn (withStep x y φ) p z) (λ (p : ℕ). outIn φ p z) (λ p h. let a = step-put p z in cases (eqb x p) (λ f. cc) (λ f. cc)) in omega arith))
+        count-put-if 8 x (eqb y z) (λ (p : ℕ). outIn φ p z) (λ (p : ℕ). outIn (withStep x y φ) p z) k
+        (λ e. let q = eqb-true y z e in rw (← q) new)
+        (λ p h. step-put p z)
 
     pub from-put : (p : ℕ) → count 8 (outIn (withStep x y φ) p) ≡ count 8 (outIn φ p) + one (eqb x p)
-    unfolding one
     from-put p =
-        cases (eqb x p)
-        (λ e. let q = eqb-true x p e in rw e (count-put 8 y (outIn φ p) (outIn (withStep x y φ) p) l (rw (← q) new) (λ z h. let a = step-put p z in cases (eqb y z) (λ f. cc) (λ f. cc))))
-        (λ e. rw e (let s = count-same 8 (outIn (withStep x y φ) p) (outIn φ p) (λ z h. let a = step-put p z in cc) in omega arith))
+        count-put-if 8 y (eqb x p) (outIn φ p) (outIn (withStep x y φ) p) l
+        (λ e. let q = eqb-true x p e in rw (← q) new)
+        (λ z h. step-put p z ∙ ap (λ (b : Bool). b || outIn φ p z) (and-swap (eqb x p) (eqb y z)))
 
   -- where it was there
   module _ (old : outIn φ x y ≡ true) where
     pub into-drop : (z : ℕ) → count 8 (λ (p : ℕ). outIn (withoutStep x y φ) p z) + one (eqb y z) ≡ count 8 (λ (p : ℕ). outIn φ p z)
-    unfolding one
     into-drop z =
-        cases (eqb y z)
-        (λ e. let q = eqb-true y z e in rw e (count-drop 8 x (λ (p : ℕ). outIn φ p z) (λ (p : ℕ). outIn (withoutStep x y φ) p z) k (rw (← q) old) (λ p h. let a = step-drop p z in cases (eqb x p) (λ f. cc) (λ f. cc))))
-        (λ e. rw e (let s = count-same 8 (λ (p : ℕ). outIn (withoutStep x y φ) p z) (λ (p : ℕ). outIn φ p z) (λ p h. let a = step-drop p z in cases (eqb x p) (λ f. cc) (λ f. cc)) in omega arith))
+        count-drop-if 8 x (eqb y z) (λ (p : ℕ). outIn φ p z) (λ (p : ℕ). outIn (withoutStep x y φ) p z) k
+        (λ e. let q = eqb-true y z e in rw (← q) old)
+        (λ p h. step-drop p z)
 
     pub from-drop : (p : ℕ) → count 8 (outIn (withoutStep x y φ) p) + one (eqb x p) ≡ count 8 (outIn φ p)
-    unfolding one
     from-drop p =
-        cases (eqb x p)
-        (λ e. let q = eqb-true x p e in rw e (count-drop 8 y (outIn φ p) (outIn (withoutStep x y φ) p) l (rw (← q) old) (λ z h. let a = step-drop p z in cases (eqb y z) (λ f. cc) (λ f. cc))))
-        (λ e. rw e (let s = count-same 8 (outIn (withoutStep x y φ) p) (outIn φ p) (λ z h. let a = step-drop p z in cc) in omega arith))
+        count-drop-if 8 y (eqb x p) (outIn φ p) (outIn (withoutStep x y φ) p) l
+        (λ e. let q = eqb-true x p e in rw (← q) old)
+        (λ z h. step-drop p z ∙ ap (λ (b : Bool). not b && outIn φ p z) (and-swap (eqb x p) (eqb y z)))
