@@ -226,18 +226,16 @@ module _ (n f : ℕ) (links : Links) (p : Proper n f links) (F sources r j : ℕ
       (λ q. clash (has (s .entered) y) (linked-entered x y e (inner-in n F r y (unseen-sound y m) (eqb-false y r q)) l) (unseen-entered y m))
 
   -- an incoming neighbour of them in V−F is in the cut
-  incoming-cut : In (has (sound n F)) r → (u : ℕ) → In (has (sound n F)) u → incoming n links unseen u ≡ true → In (has (cutOf s)) u
+  incoming-cut : In (has (sound n F)) r → (u : ℕ) → u < n → Out (has F) u → incoming n links unseen u ≡ true → In (has (cutOf s)) u
   unfolding incoming
-  incoming-cut w u i e =
+  incoming-cut w u h o e =
+      let i = sound-in n F u h o in
       let a = unseen-has u in
       let m = not-true (has unseen u) (search bools) in
       let (y, k, b) = some-at n (λ (x : ℕ). has unseen x && linkedIn links u x) (search bools) in
       cases (has (s .left) u)
       (λ l. absurd (unseen-unlinked w u y l (and-left (has unseen y) (linkedIn links u y) b) (and-right (has unseen y) (linkedIn links u y) b)))
       (λ l. cases (has (s .entered) u) (λ d. cut-in u d l) (λ d. cc))
-
-  in-cut : In (has (sound n F)) r → (u : ℕ) → u < n → Out (has F) u → incoming n links unseen u ≡ true → In (has (cutOf s)) u
-  in-cut w u h o e = incoming-cut w u (sound-in n F u h o) e
 
   pub cut-weak : In (has (minus (full n) F)) r → Unreached n links F sources r j (minus (minus (full n) F) (union (s .entered) (s .left)))
   unfolding outside
@@ -246,7 +244,7 @@ module _ (n f : ℕ) (links : Links) (p : Proper n f links) (F sources r j : ℕ
     small = minus-small n (minus (full n) F) (union (s .entered) (s .left)) (minus-small n (full n) F (full-small n));
     inside = within-all unseen (minus (full n) F) unseen-sound;
     sourceless = λ x e m. clash (has (s .entered) x) (source-entered x e) (unseen-entered x m);
-    few = rw cut-many at (count-mono n (λ (u : ℕ). not (has F u) && incoming n links unseen u) (has (cutOf s)) (λ u h e. in-cut w u h (search bools) (search bools)));
+    few = rw cut-many at (count-mono n (λ (u : ℕ). not (has F u) && incoming n links unseen u) (has (cutOf s)) (λ u h e. incoming-cut w u h (search bools) (search bools)));
   }
 
 -- the flow with k routes, where it is not found
