@@ -3,10 +3,18 @@
 -- Pushed      a search that finds something has a flow with one route more
 -- Trails      the walks from the starts of a flow: they do not meet, and each leads to the receiver
 -- Finding     the routes that the search answers are separate routes from the sources to the receiver
+-- Sums        sums over the servers
+-- Closed      a search that finds nothing has seen all that its steps lead to
+-- Cut         closed marks cut a valid flow, in as many servers as it has routes
+-- Cutting     what a search that finds nothing says of the network: the servers that it answers cut off every route
 -- Examples    the search computed on small networks
 pub mod Kept
 pub mod Updates
 pub mod Pushed
 pub mod Trails
 pub mod Finding
+pub mod Sums
+pub mod Closed
+pub mod Cut
+pub mod Cutting
 pub mod Examples
