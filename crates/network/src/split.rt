@@ -24,7 +24,14 @@ pub enum SplitAnswer {
 
 // The set s has at most f incoming neighbours outside F: then it can be a side of a bad split,
 // whatever the other side is.
-pub fn is_weak(sizes: &[u8; 256], lower: &[u8; 16], upper: &[u8; 16], f: u8, fault: u8, s: u8) -> bool
+pub fn is_weak(
+    sizes: &[u8; 256],
+    lower: &[u8; 16],
+    upper: &[u8; 16],
+    f: u8,
+    fault: u8,
+    s: u8,
+) -> bool
     ensures { λ r. ⌜ ((n : ℕ) (links : Links) → n ≤ 8 → s < 2 ^ n → Tables n links (now (sizes .entry)) (now (lower .entry)) (now (upper .entry)) → r ≡ leb (outside n links fault s) f) ⌝ }
 {
     let into = sources::into(lower, upper, s);

@@ -51,7 +51,7 @@ pub in-replicate : (k r x : ℕ) → List·Memᴰ x (replicate k r) → x ≡ r
 in-replicate zero r x m = elim m [ ]
 in-replicate (suc k) r x m = ⊎-elim (λ (e : x ≡ r). e) (in-replicate k r x) (List·Memᴰ·cases-cons m)
 
-in-repeated : (k : ℕ) (rs : List ℕ) (x : ℕ) → List·Memᴰ x (repeated k rs) → List·Memᴰ x rs
+pub in-repeated : (k : ℕ) (rs : List ℕ) (x : ℕ) → List·Memᴰ x (repeated k rs) → List·Memᴰ x rs
 unfolding repeated
 in-repeated k [] x m = m
 in-repeated k (r ∷ rs) x m =
@@ -65,7 +65,7 @@ map-join f [] ys = refl
 map-join {A} {B} f (x ∷ xs) ys = ap (λ (l : List B). f x ∷ l) (map-join f xs ys)
 
 -- a list whose images are all r
-map-same : {A : Type 0} (f : A → ℕ) (xs : List A) (r : ℕ) → Each (λ x. f x ≡ r) xs → map f xs ≡ replicate (length xs) r
+pub map-same : {A : Type 0} (f : A → ℕ) (xs : List A) (r : ℕ) → Each (λ x. f x ≡ r) xs → map f xs ≡ replicate (length xs) r
 map-same f [] r h = refl
 map-same f (x ∷ xs) r h =
     ap (λ (y : ℕ). y ∷ map f xs) (h x (List·Memᴰ·head refl))

@@ -1,6 +1,7 @@
 -- Blocks in due order.
 --     part-back       a part of W is what is left of W without the other part
 --     cut-part        every cut of W into two parts that are not empty is known by the one that holds the lowest server of W
+--     due-in          a due block has a small F of V, and one of the parts of a cut
 --     due-together    the due blocks of one F stand together
 --     order-append    blocks in order are cut where the due ones are cut
 --     order-at        each due block has its block; order-of the other way
@@ -15,7 +16,7 @@ use native.Mathlib.Omega.{arith}
 use lib.Bits.{bitAnd, and-comm, and-le-l}
 use lib.Pow.{pow-mono}
 use lib.Dec.{leb}
-use borrow.Author.Tests.{le-leb, eqb-true, ne-eqb}
+use borrow.Author.Tests.{le-leb, leb-true, eqb-true, ne-eqb}
 use Rattle.facts.proofs.Bools.{cases, clash, is-false}
 use Rattle.sets.specs.Sets.{Set, has, minus, within, full, size, lowest}
 use Rattle.sets.proofs.Members.{has-minus, minus-small, full-small, same-members, no-member, within-in, in-within}
@@ -105,6 +106,35 @@ all-in n (F ∷ Fs) d m =
     (λ h. List·Memᴰ·head (blocks-in F (listFrom (2 ^ n) 0 (isPart (minus (full n) F))) d h))
     (λ h. List·Memᴰ·tail (all-in n Fs d h))
     (List·Memᴰ·append-cases (blocksOf F (listFrom (2 ^ n) 0 (isPart (minus (full n) F)))) m)
+
+-- and whose parts are those of a cut
+
+blocks-part : (F : ℕ) (ps : List ℕ) (d : DueBlock) → List·Memᴰ d (blocksOf F ps) → List·Memᴰ (d .part) ps
+unfolding blocksOf
+blocks-part F [] d m = elim m [ ]
+blocks-part F (p ∷ ps) d m =
+    ⊎-elim
+    (λ (e : d ≡ record { faults = F; part = p }). List·Memᴰ·head (ap (λ (x : DueBlock). x .part) e))
+    (λ h. List·Memᴰ·tail (blocks-part F ps d h))
+    (List·Memᴰ·cases-cons m)
+
+all-part : (n : ℕ) (Fs : List ℕ) (d : DueBlock) → List·Memᴰ d (blocksOfAll n Fs) → isPart (minus (full n) (d .faults)) (d .part) ≡ true
+unfolding blocksOfAll
+all-part n [] d m = elim m [ ]
+all-part n (F ∷ Fs) d m =
+    ⊎-elim
+    (λ h. let e = blocks-in F (listFrom (2 ^ n) 0 (isPart (minus (full n) F))) d h in
+    let p = listed-in (2 ^ n) 0 (isPart (minus (full n) F)) (d .part) (blocks-part F (listFrom (2 ^ n) 0 (isPart (minus (full n) F))) d h) in
+    rw e (p .0))
+    (all-part n Fs d)
+    (List·Memᴰ·append-cases (blocksOf F (listFrom (2 ^ n) 0 (isPart (minus (full n) F)))) m)
+
+-- a due block has a small F of V, and one of the parts of a cut of V−F
+pub due-in : (n f : ℕ) (d : DueBlock) → List·Memᴰ d (due n f) → (d .faults < 2 ^ n) × (size (d .faults) ≤ f) × (isPart (minus (full n) (d .faults)) (d .part) ≡ true)
+unfolding due
+due-in n f d m =
+    let r = listed-in (2 ^ n) 0 (λ (F : ℕ). leb (size F) f) (d .faults) (all-in n (listFrom (2 ^ n) 0 (λ (F : ℕ). leb (size F) f)) d m) in
+    (omega arith, leb-true (size (d .faults)) f (r .0), all-part n (listFrom (2 ^ n) 0 (λ (F : ℕ). leb (size F) f)) d m)
 
 -- the blocks of two lists of fault sets, one after the other
 all-append : (n : ℕ) (Fs Gs : List ℕ) → blocksOfAll n (Fs ++ Gs) ≡ blocksOfAll n Fs ++ blocksOfAll n Gs
