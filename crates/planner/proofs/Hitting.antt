@@ -6,15 +6,16 @@
 -- Assumes nothing.
 use mathlib.Core.Path.{_≡_, refl, sym, ap, _∙_}
 use mathlib.Core.Logic.{_⊎_, inl, inr, ⊎-elim}
-use mathlib.Core.Bool.{Bool, true, false, cond, not, _&&_}
+use mathlib.Core.Bool.{Bool, true, false, cond, not, _&&_, _||_}
 use Prim.Native.Nat.{ℕ, zero, suc, _+_, _^_, _≤_, _<_}
 use native.Mathlib.Omega.{arith}
 use lib.Bits.{and-le-l}
 use lib.Dec.{eqb, ltb, leb}
 use borrow.Author.Tests.{eq-eqb, eqb-true, eqb-false, ne-eqb, lt-ltb, ltb-true, not-false, not-true}
 use Rattle.facts.proofs.Bools.{cases, clash, both, is-false, and-left, and-right, bools}
-use Rattle.sets.specs.Sets.{Set, In, Out, has, single, meet, minus, within, full, size}
+use Rattle.sets.specs.Sets.{Set, In, Out, has, single, meet, minus, within, full, count, size}
 use Rattle.sets.proofs.Members.{has-meet, has-minus, has-full, has-single, has-empty, has-below, meet-small, minus-small, full-small, within-in, in-within}
+use Rattle.sets.proofs.Counts.{count-apart, count-all}
 use Rattle.network.specs.Links.{Links}
 use Rattle.network.specs.Split.{good, firstBad, someBelow}
 use Rattle.network.specs.Weak.{weak}
@@ -46,6 +47,12 @@ has-sound n F x e = let (p, q) = has-left (full n) F x e in (ltb-true x n (sym (
 
 pub sound-small : (n F : ℕ) → minus (full n) F < 2 ^ n
 sound-small n F = minus-small n (full n) F (full-small n)
+
+-- V−F has n servers less those of F
+pub sound-count : (n F : ℕ) → count n (has (minus (full n) F)) + count n (has F) ≡ n
+sound-count n F =
+    sym (count-apart n (has (minus (full n) F)) (has F) (λ i k a b. clash (has F i) b ((has-sound n F i a) .1)))
+    ∙ count-all n (λ (i : ℕ). has (minus (full n) F) i || has F i) (λ i k. cases (has F i) (λ e. cases (has (minus (full n) F) i) (λ z. cc) (λ z. cc)) (λ e. let z = sound-has n F i k e in cc))
 
 pub shared-small : (n a b : ℕ) → a < 2 ^ n → meet a b < 2 ^ n
 unfolding meet

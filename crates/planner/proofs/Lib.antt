@@ -4,9 +4,11 @@
 -- Hitting      sets that meet every weak set
 -- Quorums      a quorum that needs each of its servers has exactly f + 1, all joined
 -- Reporters    the servers that report to one of F
+-- Writing      the blocks that are written keep the rules
 pub mod Examples
 pub mod Submodular
 pub mod WeakSets
 pub mod Hitting
 pub mod Quorums
 pub mod Reporters
+pub mod Writing

@@ -17,7 +17,7 @@ use borrow.Author.Tests.{eqb-true, eqb-false, leb-true, leb-false}
 use Rattle.facts.proofs.Bools.{cases, clash, both, is-false, or-cases, and-left, and-right, not-true, bools}
 use Rattle.sets.specs.Sets.{Set, In, Out, has, single, union, meet, minus, full, count, size}
 use Rattle.sets.proofs.Members.{has-meet, has-union, has-full, has-empty, has-below, union-small, meet-small, minus-small, full-small}
-use Rattle.sets.proofs.Counts.{count-mono, count-none, count-apart, count-all, size-count}
+use Rattle.sets.proofs.Counts.{count-mono, size-count}
 use Rattle.network.specs.Links.{Links}
 use Rattle.network.specs.Split.{good, firstBad, someBelow, incoming}
 use Rattle.network.specs.Weak.{outside, weak}
@@ -25,7 +25,7 @@ use Rattle.condition.proofs.Partitions.{member-of}
 use Rattle.planner.specs.Choice.{meetsAll}
 use Rattle.planner.proofs.Submodular.{outside-sub}
 use Rattle.planner.proofs.WeakSets.{weak-some, weak-apart, weak-few, weak-of, weak-meets-weak}
-use Rattle.planner.proofs.Hitting.{Shared, has-both, has-left, left-has, sound-has, has-sound, sound-small, has-only, only-out, Missed, meets-at, meets-not}
+use Rattle.planner.proofs.Hitting.{Shared, has-both, has-left, left-has, sound-has, has-sound, sound-small, sound-count, has-only, only-out, Missed, meets-at, meets-not}
 
 pub record Quorum (n f : ℕ) (links : Links) (F S : ℕ) : Type 0 where
   pub inside : (x : ℕ) → In (has S) x → (x < n) × Out (has F) x
@@ -138,12 +138,6 @@ module _ (n f : ℕ) (links : Links) (few : n ≤ 8) (g : firstBad n f links ≡
   pub quorum-few : count n (has S) ≤ f + 1
   quorum-few = ⊎-elim (λ z. omega arith) (λ j. let l = j .less in omega arith) (joint n)
 
-  -- V−F has n servers less those of F
-  sound-count : count n (has (minus (full n) F)) + count n (has F) ≡ n
-  sound-count =
-      sym (count-apart n (has (minus (full n) F)) (has F) (λ i k a b. clash (has F i) b ((has-sound n F i a) .1)))
-      ∙ count-all n (λ (i : ℕ). has (minus (full n) F) i || has F i) (λ i k. cases (has F i) (λ e. cases (has (minus (full n) F) i) (λ z. cc) (λ z. cc)) (λ e. let z = sound-has n F i k e in cc))
-
   -- what the quorum leaves of V−F
   abbrev X : ℕ
   X = minus (minus (full n) F) S
@@ -164,7 +158,7 @@ module _ (n f : ℕ) (links : Links) (few : n ≤ 8) (g : firstBad n f links ≡
       cases (leb (f + 1) (count n (has S)))
       (λ e. leb-true (f + 1) (count n (has S)) e)
       (λ e. let l = leb-false (f + 1) (count n (has S)) e in
-      let c = sound-count in
+      let c = sound-count n F in
       let s = size-count n F few small in
       let o = left-few in
       cases (eqb X 0)
