@@ -12,9 +12,9 @@ use native.Mathlib.Omega.{arith}
 use lib.Bits.{and-le-l}
 use lib.Dec.{eqb, ltb, leb}
 use borrow.Author.Tests.{eq-eqb, eqb-true, eqb-false, ne-eqb, lt-ltb, ltb-true, not-false, not-true}
-use Rattle.facts.proofs.Bools.{cases, clash, both, is-false, and-left, and-right, bools}
+use Rattle.facts.proofs.Bools.{cases, clash, both, is-false, and-left, and-right, same, bools}
 use Rattle.sets.specs.Sets.{Set, In, Out, has, single, meet, minus, within, full, count, size}
-use Rattle.sets.proofs.Members.{has-meet, has-minus, has-full, has-single, has-empty, has-below, meet-small, minus-small, full-small, within-in, in-within}
+use Rattle.sets.proofs.Members.{has-meet, has-minus, has-full, has-single, has-empty, has-below, meet-small, minus-small, full-small, within-in, in-within, same-all}
 use Rattle.sets.proofs.Counts.{count-apart, count-all}
 use Rattle.network.specs.Links.{Links}
 use Rattle.network.specs.Split.{good, firstBad, someBelow}
@@ -57,6 +57,14 @@ sound-count n F =
 pub shared-small : (n a b : ℕ) → a < 2 ^ n → meet a b < 2 ^ n
 unfolding meet
 shared-small n a b p = let q = and-le-l a b in omega arith
+
+pub nothing-shared : (a b : ℕ) → ((y : ℕ) → In (has a) y → In (has b) y → ⊥) → meet a b ≡ 0
+nothing-shared a b h = same-all (meet a b) 0 (λ y. is-false (has (meet a b) y) (λ e. let (p, q) = has-both a b y e in h y p q) ∙ sym (has-empty y))
+
+-- every member of a is in b
+pub within-of : (a b : ℕ) → ((i : ℕ) → In (has a) i → In (has b) i) → within a b ≡ true
+unfolding within meet
+within-of a b h = eq-eqb (meet a b) a (same-all (meet a b) a (λ i. has-meet a b i ∙ same (has a i && has b i) (has a i) (and-left (has a i) (has b i)) (λ e. both (has a i) (has b i) e (h i e))))
 
 -- single x, by members
 pub has-only : (x y : ℕ) → In (has (single x)) y → y ≡ x

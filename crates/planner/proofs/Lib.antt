@@ -5,6 +5,9 @@
 -- Quorums      a quorum that needs each of its servers has exactly f + 1, all joined
 -- Reporters    the servers that report to one of F
 -- Writing      the blocks that are written keep the rules
+-- Lengths      how long a plan is, and that none is shorter
+-- Short        the plan that is written is within a plan's limit
+-- Main         what a user relies on
 pub mod Examples
 pub mod Submodular
 pub mod WeakSets
@@ -12,3 +15,6 @@ pub mod Hitting
 pub mod Quorums
 pub mod Reporters
 pub mod Writing
+pub mod Lengths
+pub mod Short
+pub mod Main

@@ -13,7 +13,7 @@ use native.Mathlib.Numerals.{add-one}
 use lib.Pow.{pow-lt, pow-mono}
 use lib.Dec.{eqb, ltb, leb}
 use borrow.Author.Tests.{eqb-true, eqb-false, eq-eqb, ne-eqb, lt-ltb, leb-true, leb-false}
-use Rattle.facts.proofs.Bools.{cases, clash, both, is-false, or-cases, and-left, and-right, not-true, same, bools}
+use Rattle.facts.proofs.Bools.{cases, clash, both, is-false, or-cases, and-left, and-right, not-true, bools}
 use Rattle.sets.specs.Sets.{Set, In, Out, has, single, union, meet, minus, within, full, count, size, lowest, encode}
 use Rattle.sets.proofs.Members.{has-meet, has-union, has-minus, has-single, has-full, has-empty, has-below, union-small, meet-small, minus-small, full-small, encode-has, encode-small, in-within, same-all}
 use Rattle.sets.proofs.Counts.{count-mono, count-same, count-none, count-apart, count-without, without, size-count, size-union, size-empty, size-none}
@@ -26,15 +26,7 @@ use Rattle.network.proofs.Neighbours.{some-at}
 use Rattle.rules.specs.Rules.{IsReport}
 use Rattle.planner.specs.Plan.{lowestOf, reportTo}
 use Rattle.planner.proofs.WeakSets.{weak-of, weak-meets-weak}
-use Rattle.planner.proofs.Hitting.{has-both, has-left, left-has, shared-small, sound-has, has-sound, sound-small, has-only, only-out, only-has}
-
-nothing-shared : (a b : ℕ) → ((y : ℕ) → In (has a) y → In (has b) y → ⊥) → meet a b ≡ 0
-nothing-shared a b h = same-all (meet a b) 0 (λ y. is-false (has (meet a b) y) (λ e. let (p, q) = has-both a b y e in h y p q) ∙ sym (has-empty y))
-
--- every member of a is in b
-pub within-of : (a b : ℕ) → ((i : ℕ) → In (has a) i → In (has b) i) → within a b ≡ true
-unfolding within meet
-within-of a b h = eq-eqb (meet a b) a (same-all (meet a b) a (λ i. has-meet a b i ∙ same (has a i && has b i) (has a i) (and-left (has a i) (has b i)) (λ e. both (has a i) (has b i) e (h i e))))
+use Rattle.planner.proofs.Hitting.{has-both, has-left, left-has, shared-small, nothing-shared, within-of, sound-has, has-sound, sound-small, has-only, only-out, only-has}
 
 -- the lowest members
 

@@ -44,9 +44,9 @@ use Rattle.flow.proofs.Cutting.{Unreached, lost-weak}
 use Rattle.planner.specs.Choice.{meetsAll, sideOf, quorumOf}
 use Rattle.planner.specs.Plan.{routesTo, fansTo, meshOf, reportTo, blockWith, blockOf, planOf}
 use Rattle.planner.proofs.WeakSets.{weak-of}
-use Rattle.planner.proofs.Hitting.{has-left, left-has, has-sound, sound-has, sound-small, sound-count, has-only, only-out, only-has, meets-at, side-meets, thinned-inside, thinned-meets, thinned-needs}
+use Rattle.planner.proofs.Hitting.{has-left, left-has, has-sound, sound-has, sound-small, sound-count, within-of, has-only, only-out, only-has, meets-at, side-meets, thinned-inside, thinned-meets, thinned-needs}
 use Rattle.planner.proofs.Quorums.{Quorum, quorum-few, quorum-many, quorum-joined}
-use Rattle.planner.proofs.Reporters.{within-of, report-right}
+use Rattle.planner.proofs.Reporters.{report-right}
 
 -- a list of one, by its image
 map-one : {A B : Type 0} (h : A → B) (xs : List A) (y : B) → length xs ≡ 1 → Each (λ x. h x ≡ y) xs → map h xs ≡ y ∷ []
@@ -81,7 +81,7 @@ told-all : (h : ℕ → Report) (ks : List ℕ) → ((k : ℕ) → reportsTo (h 
 told-all h [] e = refl
 told-all h (k ∷ ks) e = ap₂ (λ (x : ℕ) (l : List ℕ). x ∷ l) (e k) (told-all h ks e)
 
-each-map : {A B : Type 0} (h : A → B) (P : B → Type 0) (xs : List A) → ((x : A) → List·Memᴰ x xs → P (h x)) → Each P (map h xs)
+pub each-map : {A B : Type 0} (h : A → B) (P : B → Type 0) (xs : List A) → ((x : A) → List·Memᴰ x xs → P (h x)) → Each P (map h xs)
 each-map h P [] e = λ y m. elim m [ ]
 each-map h P (x ∷ xs) e = each-cons P (h x) (map h xs) (e x (List·Memᴰ·head refl)) (each-map h P xs (λ y m. e y (List·Memᴰ·tail m)))
 
@@ -263,6 +263,17 @@ module _ (n f : ℕ) (links : Links) (p : Proper n f links) (g : firstBad n f li
       let F = d .faults in
       let A = sideOf n f links F (d .part) in
       block-with F small bound A (side-inside F (d .part) (part-inside (minus (full n) F) (d .part) part)) (side-meets n f links (p .most) F small g bound (d .part)) d refl (side-one F (d .part))
+
+  -- its S has f + 1 servers, all in A
+  pub block-quorum : (d : DueBlock) → List·Memᴰ d (due n f) → (size (blockOf n f links d .quorum) ≡ f + 1) × (minus (blockOf n f links d .quorum) (blockOf n f links d .side) ≡ 0)
+  unfolding blockOf blockWith
+  block-quorum d m =
+      let (small, bound, part) = due-in n f d m in
+      let F = d .faults in
+      let inside = side-inside F (d .part) (part-inside (minus (full n) F) (d .part) part) in
+      let meets = side-meets n f links (p .most) F small g bound (d .part) in
+      let A = sideOf n f links F (d .part) in
+      (choice-size F small bound A inside meets, nothing-inward F small bound A inside meets)
 
   orders : (ds : List DueBlock) → Each (λ d. List·Memᴰ d (due n f)) ds → InOrder n f links ds (map (blockOf n f links) ds)
   orders [] h = tt

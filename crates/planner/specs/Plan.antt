@@ -2,10 +2,10 @@
 --     blockOf n f links d     == the block for the due F and part: A, S, the routes and the reports
 --     planOf n f links        == the blocks of the plan
 --     planBytes n f links     == its bytes
+--     planLength n f          == how many these are, wherever no split is bad
 use mathlib.Core.List.{List, [], _∷_, _++_, map}
-use Prim.Native.Nat.{ℕ, zero, suc, _+_}
-use lib.ListN.{length}
-use Rattle.sets.specs.Sets.{single, union, meet, minus, full, lowest}
+use Prim.Native.Nat.{ℕ, zero, suc, _+_, _-_, _*_}
+use Rattle.sets.specs.Sets.{single, union, meet, minus, full, size, lowest}
 use Rattle.network.specs.Links.{Links, linkedIn}
 use Rattle.network.specs.Rows.{rowsOf}
 use Rattle.network.specs.Sources.{sourcesTo}
@@ -63,3 +63,15 @@ planOf n f links = map (blockOf n f links) (due n f)
 
 unfoldable pub planBytes : (n f : ℕ) → Links → List ℕ
 planBytes n f links = encodePlan (planOf n f links)
+
+-- how many bytes a block for F has if S is f + 1 servers within A
+unfoldable pub blockLength : (n f F : ℕ) → ℕ
+blockLength n f F = 4 + 9 * ((size (minus (full n) F) - 1) * (f + 1)) + 3 * size F
+
+unfoldable pub lengths : (n f : ℕ) → List DueBlock → ℕ
+lengths n f [] = 0
+lengths n f (d ∷ ds) = blockLength n f (d .faults) + lengths n f ds
+
+-- how many bytes such blocks and the end have
+unfoldable pub planLength : (n f : ℕ) → ℕ
+planLength n f = lengths n f (due n f) + 1
