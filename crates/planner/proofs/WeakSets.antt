@@ -51,5 +51,5 @@ weak-meets-weak n f links few g F small bound L R l r wl wr =
     let k = le-leb (size F) f bound in
     let z : eqb (meet L R) 0 ≡ false = cases (eqb (meet L R) 0) (λ q. cc) (λ q. q) in
     let (x, j, h) = member-of n (meet L R) few (meet-small n L R l r) z in
-    let e = sym (has-meet L R x) ∙ h in
+    let e : (has L x && has R x) ≡ true = sym (has-meet L R x) ∙ h in
     (x, j, and-left (has L x) (has R x) e, and-right (has L x) (has R x) e)

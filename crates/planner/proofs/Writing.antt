@@ -73,9 +73,9 @@ pair-each Q ss (r ∷ rs) h =
 
 -- reports
 
-report-to : (n f : ℕ) (links : Links) (F k : ℕ) → reportsTo (reportTo n f links F k) ≡ k
+report-to : (links : Links) (f W k : ℕ) → reportsTo (reportTo links f W k) ≡ k
 unfolding reportTo
-report-to n f links F k = refl
+report-to links f W k = refl
 
 told-all : (h : ℕ → Report) (ks : List ℕ) → ((k : ℕ) → reportsTo (h k) ≡ k) → map reportsTo (map h ks) ≡ ks
 told-all h [] e = refl
@@ -111,9 +111,9 @@ module _ (n f : ℕ) (links : Links) (p : Proper n f links) (g : firstBad n f li
   abbrev answer : (F sources r k : ℕ) → Sought
   answer F sources r k = flowTo (rowsOf (linkedIn links)) (minus (full n) F) sources r k
 
-  found-routes : (F sources r k : ℕ) → (answer F sources r k) .found ≡ true → Found n links F sources r k (routesTo n links F sources k r)
+  found-routes : (F sources r k : ℕ) → (answer F sources r k) .found ≡ true → Found n links F sources r k (routesTo (rowsOf (linkedIn links)) (minus (full n) F) sources k r)
   unfolding routesTo separateRoutes
-  found-routes F sources r k e = finds n f links p F sources r k (routesTo n links F sources k r) (rw e refl)
+  found-routes F sources r k e = finds n f links p F sources r k (routesTo (rowsOf (linkedIn links)) (minus (full n) F) sources k r) (rw e refl)
 
   module _ (F : ℕ) (small : F < 2 ^ n) (bound : size F ≤ f) where
     some-sound : (x : ℕ) × In (has (minus (full n) F)) x
@@ -158,13 +158,13 @@ module _ (n f : ℕ) (links : Links) (p : Proper n f links) (g : firstBad n f li
 
       -- the routes of 13, receiver by receiver
       fans-right : (rs : List ℕ) → Different rs → Each (λ r. In (has (minus (minus (full n) F) S)) r) rs
-          → (map receiverOf (fansTo n f links F S rs) ≡ repeated (f + 1) rs) × Each (λ p. In (has S) (sourceOf p)) (fansTo n f links F S rs)
-          × Each (IsRoute n links F) (fansTo n f links F S rs) × AllSeparate (fansTo n f links F S rs)
+          → (map receiverOf (fansTo (rowsOf (linkedIn links)) f (minus (full n) F) S rs) ≡ repeated (f + 1) rs) × Each (λ p. In (has S) (sourceOf p)) (fansTo (rowsOf (linkedIn links)) f (minus (full n) F) S rs)
+          × Each (IsRoute n links F) (fansTo (rowsOf (linkedIn links)) f (minus (full n) F) S rs) × AllSeparate (fansTo (rowsOf (linkedIn links)) f (minus (full n) F) S rs)
       unfolding fansTo repeated
       fans-right [] d h = (refl, λ p m. elim m [ ], λ p m. elim m [ ], tt)
       fans-right (r ∷ rs) d h =
-          let us = routesTo n links F S (f + 1) r in
-          let vs = fansTo n f links F S rs in
+          let us = routesTo (rowsOf (linkedIn links)) (minus (full n) F) S (f + 1) r in
+          let vs = fansTo (rowsOf (linkedIn links)) f (minus (full n) F) S rs in
           let u = found-routes F S r (f + 1) (fan-found r (h r (List·Memᴰ·head refl))) in
           let (order, start, each, apart) = fans-right rs (d .1) (λ x m. h x (List·Memᴰ·tail m)) in (
             map-join receiverOf us vs ∙ ap (λ (l : List ℕ). l ++ map receiverOf vs) (map-same receiverOf us r (u .end) ∙ ap (λ (k : ℕ). replicate k r) (u .many)) ∙ ap (λ (l : List ℕ). replicate (f + 1) r ++ l) order,
@@ -173,30 +173,30 @@ module _ (n f : ℕ) (links : Links) (p : Proper n f links) (g : firstBad n f li
             separate-append us vs (u .separate) apart (λ p m q o e. d .0 (receiverOf q) (in-repeated (f + 1) rs (receiverOf q) (subst (λ (l : List ℕ). List·Memᴰ (receiverOf q) l) order (Memᴰ·map receiverOf o))) (e ∙ u .end p m)),
           )
 
-      pub fan-right : Fan n f links F S (minus (minus (full n) F) S) (fansTo n f links F S (members (minus (minus (full n) F) S)))
+      pub fan-right : Fan n f links F S (minus (minus (full n) F) S) (fansTo (rowsOf (linkedIn links)) f (minus (full n) F) S (members (minus (minus (full n) F) S)))
       fan-right =
           let (order, start, each, apart) = fans-right (members (minus (minus (full n) F) S)) (members-different (minus (minus (full n) F) S)) (λ r m. (members-in (minus (minus (full n) F) S) r m) .0) in
           record { order = order; start = start; routes = each; separate = apart }
 
       -- the routes of 12, pair by pair
-      one-right : (r s : ℕ) → In (has S) r → In (has S) s → (s ≡ r → ⊥) → (map endsOf (routesTo n links F (single s) 1 r) ≡ (r, s) ∷ []) × Each (IsRoute n links F) (routesTo n links F (single s) 1 r)
+      one-right : (r s : ℕ) → In (has S) r → In (has S) s → (s ≡ r → ⊥) → (map endsOf (routesTo (rowsOf (linkedIn links)) (minus (full n) F) (single s) 1 r) ≡ (r, s) ∷ []) × Each (IsRoute n links F) (routesTo (rowsOf (linkedIn links)) (minus (full n) F) (single s) 1 r)
       one-right r s a b o =
           let u = found-routes F (single s) r 1 (mesh-found r s a b o) in
-          (map-one endsOf (routesTo n links F (single s) 1 r) (r, s) (u .many) (λ p m. ap₂ (λ (x y : ℕ). (x, y)) (u .end p m) (has-only s (sourceOf p) (u .start p m))), u .routes)
+          (map-one endsOf (routesTo (rowsOf (linkedIn links)) (minus (full n) F) (single s) 1 r) (r, s) (u .many) (λ p m. ap₂ (λ (x y : ℕ). (x, y)) (u .end p m) (has-only s (sourceOf p) (u .start p m))), u .routes)
 
       meshes-right : (es : List (ℕ × ℕ)) → Each (λ (e : ℕ × ℕ). In (has S) (e .0) × In (has S) (e .1) × (e .1 ≡ e .0 → ⊥)) es
-          → (map endsOf (meshOf n links F es) ≡ es) × Each (IsRoute n links F) (meshOf n links F es)
+          → (map endsOf (meshOf (rowsOf (linkedIn links)) (minus (full n) F) es) ≡ es) × Each (IsRoute n links F) (meshOf (rowsOf (linkedIn links)) (minus (full n) F) es)
       unfolding meshOf
       meshes-right [] h = (refl, λ p m. elim m [ ])
       meshes-right (e ∷ es) h =
-          let us = routesTo n links F (single (e .1)) 1 (e .0) in
-          let vs = meshOf n links F es in
+          let us = routesTo (rowsOf (linkedIn links)) (minus (full n) F) (single (e .1)) 1 (e .0) in
+          let vs = meshOf (rowsOf (linkedIn links)) (minus (full n) F) es in
           let (a, b, o) = h e (List·Memᴰ·head refl) in
           let (ends, each) = one-right (e .0) (e .1) a b o in
           let (order, others) = meshes-right es (λ x m. h x (List·Memᴰ·tail m)) in
           (map-join endsOf us vs ∙ ap₂ (λ (k l : List (ℕ × ℕ)). k ++ l) ends order, each-append (IsRoute n links F) us vs each others)
 
-      pub mesh-right : Mesh n links F S (meshOf n links F (pairsOf (members S) (members S)))
+      pub mesh-right : Mesh n links F S (meshOf (rowsOf (linkedIn links)) (minus (full n) F) (pairsOf (members S) (members S)))
       mesh-right =
           let (order, each) = meshes-right (pairsOf (members S) (members S)) (pair-each (λ (r s : ℕ). In (has S) r × In (has S) s × (s ≡ r → ⊥)) (members S) (members S) (λ r s a b o. ((members-in S r a) .0, (members-in S s b) .0, o))) in
           record { order = order; routes = each }
@@ -252,8 +252,8 @@ module _ (n f : ℕ) (links : Links) (p : Proper n f links) (g : firstBad n f li
             inward = fan-nothing;
             among = mesh-right S q;
             outward = fan-right S q;
-            told = told-all (reportTo n f links F) (members F) (λ k. report-to n f links F k);
-            reports = each-map (reportTo n f links F) (IsReport n f links F) (members F) (λ k m. report-right n f links (p .most) F k g small bound ((members-in F k m) .0) some-sound);
+            told = told-all (reportTo links f (minus (full n) F)) (members F) (λ k. report-to links f (minus (full n) F) k);
+            reports = each-map (reportTo links f (minus (full n) F)) (IsReport n f links F) (members F) (λ k m. report-right n f links (p .most) F k g small bound ((members-in F k m) .0) some-sound);
           }
 
   pub block-right : (d : DueBlock) → List·Memᴰ d (due n f) → InBlock n f links d (blockOf n f links d)

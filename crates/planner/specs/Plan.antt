@@ -17,28 +17,28 @@ use Rattle.flow.specs.Search.{flowTo}
 use Rattle.flow.specs.Routes.{routesOf}
 use Rattle.planner.specs.Choice.{sideOf, quorumOf}
 
--- k separate routes in V−F from the sources to r, as the search finds them
-unfoldable pub routesTo : ℕ → Links → (F sources k r : ℕ) → List Route
-routesTo n links F sources k r = routesOf (flowTo (rowsOf (linkedIn links)) (minus (full n) F) sources r k .flow) r
+-- k separate routes in W from the sources to r, as the search finds them; row u has the servers that u has a link to
+unfoldable pub routesTo : List ℕ → (W sources k r : ℕ) → List Route
+routesTo rows W sources k r = routesOf (flowTo rows W sources r k .flow) r
 
 -- f + 1 to each receiver of the list
-unfoldable pub fansTo : (n f : ℕ) → Links → (F sources : ℕ) → List ℕ → List Route
-fansTo n f links F sources [] = []
-fansTo n f links F sources (r ∷ rs) = routesTo n links F sources (f + 1) r ++ fansTo n f links F sources rs
+unfoldable pub fansTo : List ℕ → (f W sources : ℕ) → List ℕ → List Route
+fansTo rows f W sources [] = []
+fansTo rows f W sources (r ∷ rs) = routesTo rows W sources (f + 1) r ++ fansTo rows f W sources rs
 
 -- one for each pair of a receiver and a source
-unfoldable pub meshOf : ℕ → Links → ℕ → List (ℕ × ℕ) → List Route
-meshOf n links F [] = []
-meshOf n links F (e ∷ es) = routesTo n links F (single (e .1)) 1 (e .0) ++ meshOf n links F es
+unfoldable pub meshOf : List ℕ → ℕ → List (ℕ × ℕ) → List Route
+meshOf rows W [] = []
+meshOf rows W (e ∷ es) = routesTo rows W (single (e .1)) 1 (e .0) ++ meshOf rows W es
 
 -- the k lowest members of s
 unfoldable pub lowestOf : (k s : ℕ) → ℕ
 lowestOf zero s = 0
 lowestOf (suc k) s = union (single (lowest s)) (lowestOf k (minus s (single (lowest s))))
 
--- who reports to k: the f + 1 lowest servers of V−F with a link to it
-unfoldable pub reportTo : (n f : ℕ) → Links → (F k : ℕ) → Report
-reportTo n f links F k = record { receiver = k; reporters = lowestOf (f + 1) (meet (minus (full n) F) (sourcesTo links k)) }
+-- who reports to k: the f + 1 lowest servers of W with a link to it
+unfoldable pub reportTo : Links → (f W k : ℕ) → Report
+reportTo links f W k = record { receiver = k; reporters = lowestOf (f + 1) (meet W (sourcesTo links k)) }
 
 -- S lies within A, so there is no route into it from the rest of A
 unfoldable pub blockWith : (n f : ℕ) → Links → (F A S : ℕ) → Block
@@ -48,9 +48,9 @@ blockWith n f links F A S =
       side = A;
       quorum = S;
       inward = [];
-      among = meshOf n links F (pairsOf (members S) (members S));
-      outward = fansTo n f links F S (members (minus (minus (full n) F) S));
-      reports = map (reportTo n f links F) (members F);
+      among = meshOf (rowsOf (linkedIn links)) (minus (full n) F) (pairsOf (members S) (members S));
+      outward = fansTo (rowsOf (linkedIn links)) f (minus (full n) F) S (members (minus (minus (full n) F) S));
+      reports = map (reportTo links f (minus (full n) F)) (members F);
     }
 
 unfoldable pub blockOf : (n f : ℕ) → Links → DueBlock → Block
