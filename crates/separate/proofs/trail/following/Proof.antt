@@ -1,0 +1,25 @@
+use borrow.Author.Needs.{needs}
+use Rattle.separate.proofs.trail.following.Statement.{statement}
+use Rattle.separate.proofs.trail.following.Tie as tie
+use Rattle.separate.proofs.trail.following.Reads as reads
+use Rattle.separate.proofs.trail.following.Lts as lts
+use Rattle.sets.proofs.lowest.Reads as lowest-reads
+
+-- src/trail.rt:14:29
+element-copy-out-lowest : tie.Need-element-copy-out-lowest
+element-copy-out-lowest c = search needs
+
+-- src/trail.rt:14:9
+lowest-requires : tie.Need-lowest-requires
+lowest-requires c κs = search needs
+
+-- src/trail.rt:14:9
+returns : tie.Need-returns
+returns c = search needs
+
+-- src/trail.rt:10:1
+returns-2 : tie.Need-returns-2
+returns-2 c = ?
+
+pub following-spec : {M : Type 1} → statement M
+following-spec = tie.close (tie.spec element-copy-out-lowest lowest-requires returns returns-2)
