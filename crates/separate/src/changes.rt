@@ -132,8 +132,8 @@ pub fn stepped_in(s: Sought, x: u8, q: u8) -> Sought
     ensures { λ r. ⌜ r ≡ changed (stepIn x q) s ⌝ }
 {
     if s.found {
-        let before = s.flow;
-        return reached(step_in(before, x, q), s.entered, s.left);
+        let flow = s.flow;
+        return reached(step_in(flow, x, q), s.entered, s.left);
     }
     s
 }
@@ -144,8 +144,8 @@ pub fn stepped_out(s: Sought, x: u8, y: u8) -> Sought
     ensures { λ r. ⌜ r ≡ changed (stepOut x y) s ⌝ }
 {
     if s.found {
-        let before = s.flow;
-        return reached(step_out(before, x, y), s.entered, s.left);
+        let flow = s.flow;
+        return reached(step_out(flow, x, y), s.entered, s.left);
     }
     s
 }
@@ -155,8 +155,8 @@ pub fn started(s: Sought, x: u8) -> Sought
     ensures { λ r. ⌜ r ≡ changed (withStart x) s ⌝ }
 {
     if s.found {
-        let before = s.flow;
-        return reached(with_start(before, x), s.entered, s.left);
+        let flow = s.flow;
+        return reached(with_start(flow, x), s.entered, s.left);
     }
     s
 }

@@ -95,8 +95,8 @@ pub fn flow_to(rows: &[u8; 8], within: u8, sources: u8, receiver: u8, count: u8)
     let starts = sets::meet(sources, inner);
     let mut sought = changes::unsought();
     for k in 0..count {
-        let before = sought.flow;
-        let next = seek(rows, inner, last, starts, before);
+        let flow = sought.flow;
+        let next = seek(rows, inner, last, starts, flow);
         if next.found {
             sought = next;
         } else {

@@ -1,3 +1,5 @@
+-- `separate::changes::ended` meets its contract: what its two callees ensure. Assumes nothing.
+use mathlib.Core.Path.{refl}
 use borrow.Author.Needs.{needs}
 use Rattle.separate.proofs.changes.ended.Statement.{statement}
 use Rattle.separate.proofs.changes.ended.Tie as tie
@@ -6,17 +8,14 @@ use Rattle.separate.proofs.changes.ended.Lts as lts
 use Rattle.separate.proofs.changes.reached.Reads as reached-reads
 use Rattle.separate.proofs.changes.with_end.Reads as with-end-reads
 
--- src/changes.rt:119:13
 with-end-requires : tie.Need-with-end-requires
 with-end-requires c κs = search needs
 
--- src/changes.rt:119:5
 reached-requires : tie.Need-reached-requires
 reached-requires c κs = search needs
 
--- src/changes.rt:116:1
 returns : tie.Need-returns
-returns c = ?
+returns c = rw (c .reached .ensures, c .before .with-end .ensures) refl
 
 pub ended-spec : {M : Type 1} → statement M
 ended-spec = tie.close (tie.spec with-end-requires reached-requires returns)

@@ -1,3 +1,6 @@
+-- `separate::changes::started` meets its contract: the test is the definition's, and what was found is what its callees ensure. Assumes nothing.
+use mathlib.Core.Path.{refl}
+use Rattle.flow.specs.Search.{changed}
 use borrow.Author.Needs.{needs}
 use Rattle.separate.proofs.changes.started.Statement.{statement}
 use Rattle.separate.proofs.changes.started.Tie as tie
@@ -6,21 +9,19 @@ use Rattle.separate.proofs.changes.started.Lts as lts
 use Rattle.separate.proofs.changes.reached.Reads as reached-reads
 use Rattle.separate.proofs.changes.with_start.Reads as with-start-reads
 
--- src/changes.rt:159:24
 with-start-requires : tie.Need-with-start-requires
 with-start-requires c κs = search needs
 
--- src/changes.rt:159:9
 reached-requires : tie.Need-reached-requires
 reached-requires c κs = search needs
 
--- src/changes.rt:159:9
 returns : tie.Need-returns
-returns c = ?
+unfolding changed
+returns c = rw (c .before .before .before .if1 .taken, c .reached .ensures, c .before .with-start .ensures) refl
 
--- src/changes.rt:154:1
 returns-2 : tie.Need-returns-2
-returns-2 c = ?
+unfolding changed
+returns-2 c = rw (c .if1 .left) refl
 
 pub started-spec : {M : Type 1} → statement M
 started-spec = tie.close (tie.spec with-start-requires reached-requires returns returns-2)

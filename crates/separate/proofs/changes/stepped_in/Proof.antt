@@ -1,3 +1,6 @@
+-- `separate::changes::stepped_in` meets its contract: the test is the definition's, and what was found is what its callees ensure. Assumes nothing.
+use mathlib.Core.Path.{refl}
+use Rattle.flow.specs.Search.{changed}
 use borrow.Author.Needs.{needs}
 use Rattle.separate.proofs.changes.stepped_in.Statement.{statement}
 use Rattle.separate.proofs.changes.stepped_in.Tie as tie
@@ -6,21 +9,19 @@ use Rattle.separate.proofs.changes.stepped_in.Lts as lts
 use Rattle.separate.proofs.changes.reached.Reads as reached-reads
 use Rattle.separate.proofs.changes.step_in.Reads as step-in-reads
 
--- src/changes.rt:136:24
 step-in-requires : tie.Need-step-in-requires
 step-in-requires c κs = search needs
 
--- src/changes.rt:136:9
 reached-requires : tie.Need-reached-requires
 reached-requires c κs = search needs
 
--- src/changes.rt:136:9
 returns : tie.Need-returns
-returns c = ?
+unfolding changed
+returns c = rw (c .before .before .before .if1 .taken, c .reached .ensures, c .before .step-in .ensures) refl
 
--- src/changes.rt:130:1
 returns-2 : tie.Need-returns-2
-returns-2 c = ?
+unfolding changed
+returns-2 c = rw (c .if1 .left) refl
 
 pub stepped-in-spec : {M : Type 1} → statement M
 stepped-in-spec = tie.close (tie.spec step-in-requires reached-requires returns returns-2)

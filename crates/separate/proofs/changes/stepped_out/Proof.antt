@@ -1,3 +1,6 @@
+-- `separate::changes::stepped_out` meets its contract: the test is the definition's, and what was found is what its callees ensure. Assumes nothing.
+use mathlib.Core.Path.{refl}
+use Rattle.flow.specs.Search.{changed}
 use borrow.Author.Needs.{needs}
 use Rattle.separate.proofs.changes.stepped_out.Statement.{statement}
 use Rattle.separate.proofs.changes.stepped_out.Tie as tie
@@ -6,21 +9,19 @@ use Rattle.separate.proofs.changes.stepped_out.Lts as lts
 use Rattle.separate.proofs.changes.reached.Reads as reached-reads
 use Rattle.separate.proofs.changes.step_out.Reads as step-out-reads
 
--- src/changes.rt:148:24
 step-out-requires : tie.Need-step-out-requires
 step-out-requires c κs = search needs
 
--- src/changes.rt:148:9
 reached-requires : tie.Need-reached-requires
 reached-requires c κs = search needs
 
--- src/changes.rt:148:9
 returns : tie.Need-returns
-returns c = ?
+unfolding changed
+returns c = rw (c .before .before .before .if1 .taken, c .reached .ensures, c .before .step-out .ensures) refl
 
--- src/changes.rt:142:1
 returns-2 : tie.Need-returns-2
-returns-2 c = ?
+unfolding changed
+returns-2 c = rw (c .if1 .left) refl
 
 pub stepped-out-spec : {M : Type 1} → statement M
 stepped-out-spec = tie.close (tie.spec step-out-requires reached-requires returns returns-2)

@@ -1,3 +1,6 @@
+-- `separate::changes::without_use` meets its contract: the field of servers passed is the rest that `minus` ensures, and the others are as they were. Assumes nothing.
+use mathlib.Core.Path.{refl}
+use Rattle.flow.specs.Search.{withoutUse}
 use borrow.Author.Needs.{needs}
 use Rattle.separate.proofs.changes.without_use.Statement.{statement}
 use Rattle.separate.proofs.changes.without_use.Tie as tie
@@ -6,17 +9,15 @@ use Rattle.separate.proofs.changes.without_use.Lts as lts
 use Rattle.sets.proofs.minus.Reads as minus-reads
 use Rattle.sets.proofs.single.Reads as single-reads
 
--- src/changes.rt:46:40
 single-requires : tie.Need-single-requires
 single-requires c κs = search needs
 
--- src/changes.rt:46:5
 minus-requires : tie.Need-minus-requires
 minus-requires c κs = search needs
 
--- src/changes.rt:43:1
 returns : tie.Need-returns
-returns c = ?
+unfolding withoutUse
+returns c = rw (c .minus .ensures, c .before .single .ensures) refl
 
 pub without-use-spec : {M : Type 1} → statement M
 without-use-spec = tie.close (tie.spec single-requires minus-requires returns)

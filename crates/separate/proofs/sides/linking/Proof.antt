@@ -1,3 +1,13 @@
+-- `separate::sides::linking` meets its contract. The invariant of its loop: the set has the servers below x with a link to r. The measure is what is
+-- left of the eight. Assumes nothing.
+use mathlib.Core.Path.{_∙_}
+use mathlib.Core.Logic.{⊎-elim}
+use Prim.Native.Nat.{ℕ, _-_, _≤_}
+use native.Mathlib.Omega.{arith}
+use lib.ListN.{getD}
+use Rattle.sets.specs.Sets.{has}
+use Rattle.separate.proofs.Scans.{Linking, linking-starts, linking-joins, linking-passes, linking-ends}
+use borrow.Author.Needs.{needs}
 use Rattle.separate.proofs.sides.linking.Statement.{statement}
 use Rattle.separate.proofs.sides.linking.Tie as tie
 use Rattle.separate.proofs.sides.linking.Reads as reads
@@ -6,50 +16,40 @@ use Rattle.sets.proofs.member.Reads as member-reads
 use Rattle.sets.proofs.union.Reads as union-reads
 
 abbrev Inv-loop : tie.InvT-loop
-Inv-loop rows r servers₀ x₀ servers x = ?
+Inv-loop rows r servers₀ x₀ servers x = (x ≤ 8) × Linking (λ (i : ℕ). has (getD rows i 0) r) x servers
 
 abbrev μ-loop : tie.MeasureT-loop
-μ-loop rows r servers₀ x₀ servers x = ?
+μ-loop rows r servers₀ x₀ servers x = 8 - x
 
--- src/sides.rt:47:5
 loop-holds : tie.Need-loop-holds Inv-loop μ-loop
-loop-holds c = ?
+loop-holds c = (omega arith, linking-starts (λ (i : ℕ). has (getD (c .args .rows .now) i 0) (c .args .r)))
 
--- src/sides.rt:48:25
 element-copy-out-member : tie.Need-element-copy-out-member Inv-loop μ-loop
-element-copy-out-member c = ?
+element-copy-out-member c = search needs
 
--- src/sides.rt:48:12
 member-requires : tie.Need-member-requires Inv-loop μ-loop
-member-requires c κs = ?
+member-requires c κs = search needs
 
--- src/sides.rt:49:51
 cast-union : tie.Need-cast-union Inv-loop μ-loop
-cast-union c = ?
+cast-union c = search needs
 
--- src/sides.rt:49:44
 shl-union : tie.Need-shl-union Inv-loop μ-loop
-shl-union c = ?
+shl-union c = search needs
 
--- src/sides.rt:49:13
 union-requires : tie.Need-union-requires Inv-loop μ-loop
-union-requires c κs = ?
+union-requires c κs = search needs
 
--- src/sides.rt:47:9
 add-x : tie.Need-add-x Inv-loop μ-loop
-add-x c = ?
+add-x c = search needs
 
--- src/sides.rt:47:5
 loop-less : tie.Need-loop-less Inv-loop μ-loop
-loop-less c = ?
+loop-less c = search needs
 
--- src/sides.rt:47:5
 loop-again : tie.Need-loop-again Inv-loop μ-loop
 loop-again c = ?
 
--- src/sides.rt:43:1
 returns : tie.Need-returns Inv-loop μ-loop
-returns c = ?
+returns c = linking-ends _ _ _ (c .before .loop .inv .1) (omega arith)
 
 pub linking-spec : {M : Type 1} → statement M
 linking-spec =

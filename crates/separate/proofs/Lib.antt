@@ -1,0 +1,3 @@
+-- Scans     the loops over the eight servers: the first that feeds x, and the set of those with a link to r
+pub mod Scans
+pub mod Laying
