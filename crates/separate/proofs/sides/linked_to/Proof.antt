@@ -29,7 +29,9 @@ meet-requires c κs = search needs
 
 returns : tie.Need-returns
 unfolding linkedTo
-returns c = ?
+returns c =
+    let inside = sym (c .before .before .before .before .before .member .ensures) ∙ c .before .before .before .before .if1 .taken in
+    rw (inside, c .meet .ensures, c .before .linking .ensures, c .before .before .minus .ensures, c .before .before .before .single .ensures) refl
 
 returns-2 : tie.Need-returns-2
 unfolding linkedTo

@@ -1,6 +1,6 @@
 -- `separate::sides::linking` meets its contract. The invariant of its loop: the set has the servers below x with a link to r. The measure is what is
 -- left of the eight. Assumes nothing.
-use mathlib.Core.Path.{_∙_}
+use mathlib.Core.Path.{sym, _∙_}
 use mathlib.Core.Logic.{⊎-elim}
 use Prim.Native.Nat.{ℕ, _-_, _≤_}
 use native.Mathlib.Omega.{arith}
@@ -46,7 +46,14 @@ loop-less : tie.Need-loop-less Inv-loop μ-loop
 loop-less c = search needs
 
 loop-again : tie.Need-loop-again Inv-loop μ-loop
-loop-again c = ?
+loop-again c = let tested = sym (c .before .member .ensures) in
+    let so = c .before .before .before .before .loop .inv .1 in (
+      omega arith,
+      ⊎-elim
+          (λ w. linking-joins _ _ _ so (omega arith) (tested ∙ w .0 .taken) _ (w .2 ∙ w .1 .ensures))
+          (λ w. rw (w .1) (linking-passes _ _ _ so (tested ∙ w .0 .left)))
+          (c .if1 .came),
+    )
 
 returns : tie.Need-returns Inv-loop μ-loop
 returns c = linking-ends _ _ _ (c .before .loop .inv .1) (omega arith)
