@@ -1,6 +1,14 @@
-use Prim.Native.Nat.{ℕ, _<_}
+-- `separate::search::enter` and `separate::search::leave` meet their contracts, by one induction: they call each other, and the allowance is the measure
+-- of both. The loop of `leave` has the invariant of Turns.antt: nothing is found so far, and what the rest of the servers give is what the whole
+-- gives. Assumes nothing.
+use mathlib.Core.Path.{_∙_, ap}
+use Prim.Native.Nat.{ℕ, _-_, _<_}
+use native.Mathlib.Omega.{arith}
+use borrow.Author.Needs.{needs}
 use borrow.Fn.Kinds.{In}
 use borrow.Fn.PlainCycle.{Measures, is, falls, and}
+use Rattle.sets.specs.Sets.{has, union}
+use Rattle.separate.proofs.Turns.{Entering, enter-none, enter-seen, enter-goes, enter-ends, trying-found, trying-fails, trying-passes, trying-ends, Leaving, TryingNext, leave-none, leave-ends, leave-tries}
 use Rattle.separate.proofs.search.enter.Reads as enter
 use Rattle.separate.proofs.search.enter.Kinds as enter-kinds
 use Rattle.separate.proofs.search.+enter+leave.Lts-enter as enter-lts
@@ -21,10 +29,10 @@ use Rattle.separate.proofs.search.+enter+leave.{statement}
 use Rattle.separate.proofs.search.+enter+leave.Tie.{close}
 
 abbrev μ-enter : Measures 1 enter-kinds.ps ℕ
-μ-enter κs a = ?
+μ-enter κs a = a .0
 
 abbrev μ-leave : Measures 1 leave-kinds.ps ℕ
-μ-leave κs a = ?
+μ-leave κs a = a .0
 
 abbrev enter-at : ℕ → In 1 enter-kinds.ps
 enter-at t = and 1 enter-kinds.ps (is 1 enter-kinds.ps μ-enter t) enter.Pre
@@ -38,7 +46,7 @@ leave-at t = and 1 leave-kinds.ps (is 1 leave-kinds.ps μ-leave t) leave.Pre
 abbrev leave-below : ℕ → In 1 leave-kinds.ps
 leave-below t = and 1 leave-kinds.ps (falls 1 leave-kinds.ps _<_ μ-leave t) leave.Pre
 
--- what the callees ask and ensure, each way
+-- what the callees ask and ensure; the other of the two at a smaller allowance
 abbrev enter-claims : ℕ → enter-lts.Claims
 enter-claims t = (
   lost-reads.Asked,
@@ -79,11 +87,22 @@ leave-claims t = (
   stepped-out-reads.Learnt,
 )
 
+-- after the server behind x is known
+entering : (t : ℕ) (c : enter-lts.After-behind (enter-claims t) (enter-at t) enter.Post) →
+    let a = c .before .before .before .before .args in
+    Entering (a .allowance) (a .flow) (a .entered) (a .x) (a .allowance - 1) (c .before .union .result) (c .behind .result)
+entering t c =
+    record {
+      allowed = omega arith;
+      seen = c .before .union .ensures ∙ ap (union (c .before .before .before .before .args .entered)) (c .before .before .single .ensures);
+      back = c .behind .ensures;
+    }
+
 enter-lost-requires : (t : ℕ) → enter-lts.Need-lost-requires (enter-claims t) (enter-at t) enter.Post
 enter-lost-requires t c κs = search needs
 
 enter-returns : (t : ℕ) → enter-lts.Need-returns (enter-claims t) (enter-at t) enter.Post
-enter-returns t c = ?
+enter-returns t c = enter-none _ _ _ _ _ _ _ _ (c .before .if1 .taken) _ (c .lost .ensures)
 
 enter-single-requires : (t : ℕ) → enter-lts.Need-single-requires (enter-claims t) (enter-at t) enter.Post
 enter-single-requires t c κs = search needs
@@ -101,7 +120,8 @@ enter-lost-requires-2 : (t : ℕ) → enter-lts.Need-lost-requires-2 (enter-clai
 enter-lost-requires-2 t c κs = search needs
 
 enter-returns-2 : (t : ℕ) → enter-lts.Need-returns-2 (enter-claims t) (enter-at t) enter.Post
-enter-returns-2 t c = ?
+enter-returns-2 t c =
+    enter-seen _ _ _ _ _ _ _ _ _ _ _ (entering t (c .before .before .before .before)) (c .before .before .before .if2 .taken) _ (c .before .before .member .ensures) (c .before .if3 .taken) _ (c .lost2 .ensures)
 
 enter-sub-fewer : (t : ℕ) → enter-lts.Need-sub-fewer (enter-claims t) (enter-at t) enter.Post
 enter-sub-fewer t c = search needs
@@ -113,26 +133,39 @@ enter-stepped-in-requires : (t : ℕ) → enter-lts.Need-stepped-in-requires (en
 enter-stepped-in-requires t c κs = search needs
 
 enter-returns-3 : (t : ℕ) → enter-lts.Need-returns-3 (enter-claims t) (enter-at t) enter.Post
-enter-returns-3 t c = ?
+enter-returns-3 t c =
+    enter-goes _ _ _ _ _ _ _ _ _ _ _ (entering t (c .before .before .before .before .before)) (c .before .before .before .before .if2 .taken) _ (c .before .before .before .member .ensures) (c .before .before .if3 .left) _ (c .before .leave .ensures) _ (c .stepped-in .ensures)
 
 enter-lost-requires-3 : (t : ℕ) → enter-lts.Need-lost-requires-3 (enter-claims t) (enter-at t) enter.Post
 enter-lost-requires-3 t c κs = search needs
 
 enter-returns-4 : (t : ℕ) → enter-lts.Need-returns-4 (enter-claims t) (enter-at t) enter.Post
-enter-returns-4 t c = ?
+enter-returns-4 t c = enter-ends _ _ _ _ _ _ _ _ _ _ _ (entering t (c .before .before)) (c .before .if2 .left) _ (c .lost3 .ensures)
 
 abbrev leave-Inv-loop : leave-lts.InvT-loop
 leave-Inv-loop allowance rows inner last flow entered left x seen fewer choices tried₀ y₀ tried y =
-    Trying (outTo fewer rows inner last flow x) choices y tried (leave-of allowance rows inner last flow entered left x)
+    TryingNext allowance fewer rows inner last flow entered left x choices y tried
 
 abbrev leave-μ-loop : leave-lts.MeasureT-loop
 leave-μ-loop allowance rows inner last flow entered left x seen fewer choices tried₀ y₀ tried y = 8 - y
+
+-- after the test for the receiver
+leaving : (t : ℕ) (c : leave-lts.After-member (leave-claims t) (leave-at t) leave.Post leave-Inv-loop leave-μ-loop) →
+    let a = c .before .before .before .before .before .args in
+    Leaving (a .allowance) (a .last) (a .flow) (a .left) (a .x) (a .allowance - 1) (c .before .before .union .result) (c .member .result)
+leaving t c =
+    let a = c .before .before .before .before .before .args in
+    record {
+      allowed = omega arith;
+      seen = c .before .before .union .ensures ∙ ap (union (a .left)) (c .before .before .before .single .ensures);
+      tested = c .member .ensures ∙ ap (λ (m : ℕ). has m (a .x)) (c .before .minus .ensures);
+    }
 
 leave-lost-requires : (t : ℕ) → leave-lts.Need-lost-requires (leave-claims t) (leave-at t) leave.Post leave-Inv-loop leave-μ-loop
 leave-lost-requires t c κs = search needs
 
 leave-returns : (t : ℕ) → leave-lts.Need-returns (leave-claims t) (leave-at t) leave.Post leave-Inv-loop leave-μ-loop
-leave-returns t c = ?
+leave-returns t c = leave-none _ _ _ _ _ _ _ _ (c .before .if1 .taken) _ (c .lost .ensures)
 
 leave-single-requires : (t : ℕ) → leave-lts.Need-single-requires (leave-claims t) (leave-at t) leave.Post leave-Inv-loop leave-μ-loop
 leave-single-requires t c κs = search needs
@@ -150,7 +183,7 @@ leave-ended-requires : (t : ℕ) → leave-lts.Need-ended-requires (leave-claims
 leave-ended-requires t c κs = search needs
 
 leave-returns-2 : (t : ℕ) → leave-lts.Need-returns-2 (leave-claims t) (leave-at t) leave.Post leave-Inv-loop leave-μ-loop
-leave-returns-2 t c = ?
+leave-returns-2 t c = leave-ends _ _ _ _ _ _ _ _ _ _ _ (leaving t (c .before .before)) (c .before .if2 .taken) _ (c .ended .ensures)
 
 leave-sub-fewer : (t : ℕ) → leave-lts.Need-sub-fewer (leave-claims t) (leave-at t) leave.Post leave-Inv-loop leave-μ-loop
 leave-sub-fewer t c = search needs
@@ -162,7 +195,7 @@ leave-lost-requires-2 : (t : ℕ) → leave-lts.Need-lost-requires-2 (leave-clai
 leave-lost-requires-2 t c κs = search needs
 
 leave-loop-holds : (t : ℕ) → leave-lts.Need-loop-holds (leave-claims t) (leave-at t) leave.Post leave-Inv-loop leave-μ-loop
-leave-loop-holds t c = ?
+leave-loop-holds t c = leave-tries _ _ _ _ _ _ _ _ _ _ _ (leaving t (c .before .before .before)) (c .before .before .if2 .left) _ (c .before .ahead .ensures) _ (c .lost2 .ensures)
 
 leave-minus-requires-2 : (t : ℕ) → leave-lts.Need-minus-requires-2 (leave-claims t) (leave-at t) leave.Post leave-Inv-loop leave-μ-loop
 leave-minus-requires-2 t c κs = search needs
@@ -174,10 +207,11 @@ leave-enter-requires : (t : ℕ) → leave-lts.Need-enter-requires (leave-claims
 leave-enter-requires t c κs = search needs
 
 leave-stepped-out-requires : (t : ℕ) → leave-lts.Need-stepped-out-requires (leave-claims t) (leave-at t) leave.Post leave-Inv-loop leave-μ-loop
-leave-stepped-out-requires t c κs = search needs
+leave-stepped-out-requires t c κs = c .before .before .before .before .before .before .before .before .before .before .before .before .before .before .pre .1
 
 leave-returns-3 : (t : ℕ) → leave-lts.Need-returns-3 (leave-claims t) (leave-at t) leave.Post leave-Inv-loop leave-μ-loop
-leave-returns-3 t c = ?
+leave-returns-3 t c =
+    trying-found _ _ _ _ _ _ (c .before .before .before .before .before .before .before .loop .inv) (c .before .before .before .before .before .before .loop-test .taken) _ (c .before .before .before .before .before .minus2 .ensures) _ (c .before .before .before .before .member2 .ensures) (c .before .before .before .if3 .taken) _ (c .before .before .enter .ensures) _ (c .before .stepped-out .ensures) (c .if4 .taken)
 
 leave-add-y : (t : ℕ) → leave-lts.Need-add-y (leave-claims t) (leave-at t) leave.Post leave-Inv-loop leave-μ-loop
 leave-add-y t c = search needs
@@ -186,7 +220,8 @@ leave-loop-less : (t : ℕ) → leave-lts.Need-loop-less (leave-claims t) (leave
 leave-loop-less t c = search needs
 
 leave-loop-again : (t : ℕ) → leave-lts.Need-loop-again (leave-claims t) (leave-at t) leave.Post leave-Inv-loop leave-μ-loop
-leave-loop-again t c = ?
+leave-loop-again t c =
+    trying-fails _ _ _ _ _ _ (c .before .before .before .before .before .before .before .loop .inv) (c .before .before .before .before .before .before .loop-test .taken) _ (c .before .before .before .before .before .minus2 .ensures) _ (c .before .before .before .before .member2 .ensures) (c .before .before .before .if3 .taken) _ (c .before .before .enter .ensures) _ (c .before .stepped-out .ensures) (c .if4 .left)
 
 leave-add-y-2 : (t : ℕ) → leave-lts.Need-add-y-2 (leave-claims t) (leave-at t) leave.Post leave-Inv-loop leave-μ-loop
 leave-add-y-2 t c = search needs
@@ -195,10 +230,11 @@ leave-loop-less-2 : (t : ℕ) → leave-lts.Need-loop-less-2 (leave-claims t) (l
 leave-loop-less-2 t c = search needs
 
 leave-loop-again-2 : (t : ℕ) → leave-lts.Need-loop-again-2 (leave-claims t) (leave-at t) leave.Post leave-Inv-loop leave-μ-loop
-leave-loop-again-2 t c = ?
+leave-loop-again-2 t c =
+    trying-passes _ _ _ _ _ _ (c .before .before .before .before .loop .inv) (c .before .before .before .loop-test .taken) _ (c .before .before .minus2 .ensures) _ (c .before .member2 .ensures) (c .if3 .left)
 
 leave-returns-4 : (t : ℕ) → leave-lts.Need-returns-4 (leave-claims t) (leave-at t) leave.Post leave-Inv-loop leave-μ-loop
-leave-returns-4 t c = ?
+leave-returns-4 t c = trying-ends _ _ _ _ _ _ (c .before .loop .inv) (c .loop-test .left)
 
 pub +enter+leave-spec : {M : Type 1} → statement M
 +enter+leave-spec = close μ-enter μ-leave (λ t. enter-lts.spec (enter-claims t)
