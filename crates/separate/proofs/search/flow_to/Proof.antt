@@ -1,3 +1,9 @@
+-- `separate::search::flow_to` meets its contract. The invariant of its loop: what the routes still to be sought give is what the whole gives. The measure
+-- is how many these are. Assumes nothing.
+use Prim.Native.Nat.{_-_}
+use Rattle.flow.specs.Search.{flowTo}
+use Rattle.separate.proofs.Turns.{Adding, adding-starts, adding-on, adding-ends, adding-done}
+use borrow.Author.Needs.{needs}
 use Rattle.separate.proofs.search.flow_to.Statement.{statement}
 use Rattle.separate.proofs.search.flow_to.Tie as tie
 use Rattle.separate.proofs.search.flow_to.Reads as reads
@@ -10,58 +16,46 @@ use Rattle.sets.proofs.minus.Reads as minus-reads
 use Rattle.sets.proofs.single.Reads as single-reads
 
 abbrev Inv-loop : tie.InvT-loop
-Inv-loop rows within sources receiver count inner last starts sought₀ k₀ sought k = ?
+Inv-loop rows within sources receiver count inner last starts sought₀ k₀ sought k = Adding rows inner last starts count k sought (flowTo rows within sources receiver count)
 
 abbrev μ-loop : tie.MeasureT-loop
-μ-loop rows within sources receiver count inner last starts sought₀ k₀ sought k = ?
+μ-loop rows within sources receiver count inner last starts sought₀ k₀ sought k = count - k
 
--- src/search.rt:93:37
 single-requires : tie.Need-single-requires Inv-loop μ-loop
-single-requires c κs = ?
+single-requires c κs = search needs
 
--- src/search.rt:93:9
 minus-requires : tie.Need-minus-requires Inv-loop μ-loop
-minus-requires c κs = ?
+minus-requires c κs = search needs
 
--- src/search.rt:94:9
 linked-to-requires : tie.Need-linked-to-requires Inv-loop μ-loop
-linked-to-requires c κs = ?
+linked-to-requires c κs = search needs
 
--- src/search.rt:95:9
 meet-requires : tie.Need-meet-requires Inv-loop μ-loop
-meet-requires c κs = ?
+meet-requires c κs = search needs
 
--- src/search.rt:96:9
 unsought-requires : tie.Need-unsought-requires Inv-loop μ-loop
-unsought-requires c κs = ?
+unsought-requires c κs = search needs
 
--- src/search.rt:97:5
 loop-holds : tie.Need-loop-holds Inv-loop μ-loop
-loop-holds c = ?
+loop-holds c = adding-starts _ _ _ _ _ _ _ _ _ (c .before .before .before .before .single .ensures) (c .before .before .before .minus .ensures) (c .before .before .linked-to .ensures) (c .before .meet .ensures) _ (c .unsought .ensures)
 
--- src/search.rt:99:13
 seek-requires : tie.Need-seek-requires Inv-loop μ-loop
-seek-requires c κs = ?
+seek-requires c κs = search needs
 
--- src/search.rt:103:13
 returns : tie.Need-returns Inv-loop μ-loop
-returns c = ?
+returns c = adding-ends _ _ _ _ _ _ _ _ (c .before .before .before .before .loop .inv) (c .before .before .before .loop-test .taken) _ (c .before .seek .ensures) (c .if1 .left)
 
--- src/search.rt:97:9
 add-k : tie.Need-add-k Inv-loop μ-loop
-add-k c = ?
+add-k c = search needs
 
--- src/search.rt:97:5
 loop-less : tie.Need-loop-less Inv-loop μ-loop
-loop-less c = ?
+loop-less c = search needs
 
--- src/search.rt:97:5
 loop-again : tie.Need-loop-again Inv-loop μ-loop
-loop-again c = ?
+loop-again c = adding-on _ _ _ _ _ _ _ _ (c .before .before .before .before .loop .inv) (c .before .before .before .loop-test .taken) _ (c .before .seek .ensures) (c .if1 .taken)
 
--- src/search.rt:90:1
 returns-2 : tie.Need-returns-2 Inv-loop μ-loop
-returns-2 c = ?
+returns-2 c = adding-done _ _ _ _ _ _ _ _ (c .before .loop .inv) (c .loop-test .left)
 
 pub flow-to-spec : {M : Type 1} → statement M
 flow-to-spec =

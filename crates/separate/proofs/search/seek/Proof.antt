@@ -1,3 +1,8 @@
+-- `separate::search::seek` meets its contract. The invariant of its loop: nothing is found so far, and what the rest of the sources give is what the
+-- whole gives. The measure is what is left of the eight. Assumes nothing.
+use Prim.Native.Nat.{_-_}
+use Rattle.separate.proofs.Turns.{TryingSources, seek-tries, trying-found, trying-fails, trying-passes, trying-ends}
+use borrow.Author.Needs.{needs}
 use Rattle.separate.proofs.search.seek.Statement.{statement}
 use Rattle.separate.proofs.search.seek.Tie as tie
 use Rattle.separate.proofs.search.seek.Reads as reads
@@ -9,66 +14,55 @@ use Rattle.sets.proofs.member.Reads as member-reads
 use Rattle.sets.proofs.minus.Reads as minus-reads
 
 abbrev Inv-loop : tie.InvT-loop
-Inv-loop rows inner last sources flow tried₀ x₀ tried x = ?
+Inv-loop rows inner last sources flow tried₀ x₀ tried x = TryingSources rows inner last sources flow x tried
 
 abbrev μ-loop : tie.MeasureT-loop
-μ-loop rows inner last sources flow tried₀ x₀ tried x = ?
+μ-loop rows inner last sources flow tried₀ x₀ tried x = 8 - x
 
--- src/search.rt:70:9
 lost-requires : tie.Need-lost-requires Inv-loop μ-loop
-lost-requires c κs = ?
+lost-requires c κs = search needs
 
--- src/search.rt:72:5
 loop-holds : tie.Need-loop-holds Inv-loop μ-loop
-loop-holds c = ?
+loop-holds c = seek-tries _ _ _ _ _ _ (c .lost .ensures)
 
--- src/search.rt:73:25
 minus-requires : tie.Need-minus-requires Inv-loop μ-loop
-minus-requires c κs = ?
+minus-requires c κs = search needs
 
--- src/search.rt:73:12
 member-requires : tie.Need-member-requires Inv-loop μ-loop
-member-requires c κs = ?
+member-requires c κs = search needs
 
--- src/search.rt:74:17
 enter-requires : tie.Need-enter-requires Inv-loop μ-loop
-enter-requires c κs = ?
+enter-requires c κs = search needs
 
--- src/search.rt:75:17
 started-requires : tie.Need-started-requires Inv-loop μ-loop
-started-requires c κs = ?
+started-requires c κs = search needs
 
--- src/search.rt:77:17
 returns : tie.Need-returns Inv-loop μ-loop
-returns c = ?
+returns c =
+    trying-found _ _ _ _ _ _ (c .before .before .before .before .before .before .before .loop .inv) (c .before .before .before .before .before .before .loop-test .taken) _ (c .before .before .before .before .before .minus .ensures) _ (c .before .before .before .before .member .ensures) (c .before .before .before .if1 .taken) _ (c .before .before .enter .ensures) _ (c .before .started .ensures) (c .if2 .taken)
 
--- src/search.rt:80:13
 add-x : tie.Need-add-x Inv-loop μ-loop
-add-x c = ?
+add-x c = search needs
 
--- src/search.rt:72:5
 loop-less : tie.Need-loop-less Inv-loop μ-loop
-loop-less c = ?
+loop-less c = search needs
 
--- src/search.rt:72:5
 loop-again : tie.Need-loop-again Inv-loop μ-loop
-loop-again c = ?
+loop-again c =
+    trying-fails _ _ _ _ _ _ (c .before .before .before .before .before .before .before .loop .inv) (c .before .before .before .before .before .before .loop-test .taken) _ (c .before .before .before .before .before .minus .ensures) _ (c .before .before .before .before .member .ensures) (c .before .before .before .if1 .taken) _ (c .before .before .enter .ensures) _ (c .before .started .ensures) (c .if2 .left)
 
--- src/search.rt:82:13
 add-x-2 : tie.Need-add-x-2 Inv-loop μ-loop
-add-x-2 c = ?
+add-x-2 c = search needs
 
--- src/search.rt:72:5
 loop-less-2 : tie.Need-loop-less-2 Inv-loop μ-loop
-loop-less-2 c = ?
+loop-less-2 c = search needs
 
--- src/search.rt:72:5
 loop-again-2 : tie.Need-loop-again-2 Inv-loop μ-loop
-loop-again-2 c = ?
+loop-again-2 c =
+    trying-passes _ _ _ _ _ _ (c .before .before .before .before .loop .inv) (c .before .before .before .loop-test .taken) _ (c .before .before .minus .ensures) _ (c .before .member .ensures) (c .if1 .left)
 
--- src/search.rt:67:1
 returns-2 : tie.Need-returns-2 Inv-loop μ-loop
-returns-2 c = ?
+returns-2 c = trying-ends _ _ _ _ _ _ (c .before .loop .inv) (c .loop-test .left)
 
 pub seek-spec : {M : Type 1} → statement M
 seek-spec =
