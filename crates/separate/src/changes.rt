@@ -5,17 +5,6 @@ ghost use mathlib.Core.Path.{_≡_};
 ghost use Prim.Native.Nat.{_<_};
 ghost use Rattle.flow.specs.Search.{noFlow, withStart, withEnd, withUse, withoutUse, withStep, withoutStep, stepIn, stepOut, lost, reached, changed};
 
-pub fn no_flow() -> Flow
-    ensures { λ r. ⌜ r ≡ noFlow ⌝ }
-{
-    Flow {
-        used: 0,
-        start: 0,
-        ends: 0,
-        out: [0u8; 8],
-    }
-}
-
 // A route starts at x.
 fn with_start(mut flow: Flow, x: u8) -> Flow
     ensures { λ r. ⌜ r ≡ withStart x flow ⌝ }
@@ -100,63 +89,68 @@ pub fn lost(flow: Flow, entered: u8, left: u8) -> Sought
     }
 }
 
-// The receiver reached.
-fn reached(flow: Flow, entered: u8, left: u8) -> Sought
-    ensures { λ r. ⌜ r ≡ reached flow entered left ⌝ }
-{
-    Sought {
-        found: true,
-        flow: flow,
-        entered: entered,
-        left: left,
-    }
-}
-
 // The receiver reached from x.
 pub fn ended(flow: Flow, entered: u8, left: u8, x: u8) -> Sought
     ensures { λ r. ⌜ r ≡ reached (withEnd x flow) entered left ⌝ }
 {
-    reached(with_end(flow, x), entered, left)
+    let ending = with_end(flow, x);
+    Sought {
+        found: true,
+        flow: ending,
+        entered: entered,
+        left: left,
+    }
 }
 
 // Before the first route, nothing is sought and no flow is there.
 pub fn unsought() -> Sought
     ensures { λ r. ⌜ r ≡ reached noFlow 0 0 ⌝ }
 {
-    reached(no_flow(), 0, 0)
+    let none = Flow {
+        used: 0,
+        start: 0,
+        ends: 0,
+        out: [0u8; 8],
+    };
+    Sought {
+        found: true,
+        flow: none,
+        entered: 0,
+        left: 0,
+    }
 }
 
 // What was found, with the step into x before it.
-pub fn stepped_in(s: Sought, x: u8, q: u8) -> Sought
+pub fn stepped_in(mut s: Sought, x: u8, q: u8) -> Sought
     requires { ⌜ q < 8 ⌝ }
     ensures { λ r. ⌜ r ≡ changed (stepIn x q) s ⌝ }
 {
     if s.found {
-        let flow = s.flow;
-        return reached(step_in(flow, x, q), s.entered, s.left);
+        let flow = step_in(s.flow, x, q);
+        s.flow = flow;
     }
     s
 }
 
 // What was found, with the step from x to y before it.
-pub fn stepped_out(s: Sought, x: u8, y: u8) -> Sought
+pub fn stepped_out(mut s: Sought, x: u8, y: u8) -> Sought
     requires { ⌜ x < 8 ⌝ }
     ensures { λ r. ⌜ r ≡ changed (stepOut x y) s ⌝ }
 {
     if s.found {
-        let flow = s.flow;
-        return reached(step_out(flow, x, y), s.entered, s.left);
+        let flow = step_out(s.flow, x, y);
+        s.flow = flow;
     }
     s
 }
 
 // What was found from the source x on, as a route that starts there.
-pub fn started(s: Sought, x: u8) -> Sought
+pub fn started(mut s: Sought, x: u8) -> Sought
     ensures { λ r. ⌜ r ≡ changed (withStart x) s ⌝ }
 {
     if s.found {
-        let flow = s.flow;
-        return reached(with_start(flow, x), s.entered, s.left);
+        let flow = with_start(s.flow, x);
+        s.flow = flow;
     }
     s
 }
