@@ -29,6 +29,7 @@ fn with_use(mut flow: Flow, x: u8) -> Flow
     flow
 }
 
+// No route passes x any more.
 fn without_use(mut flow: Flow, x: u8) -> Flow
     ensures { λ r. ⌜ r ≡ withoutUse x flow ⌝ }
 {
@@ -46,6 +47,7 @@ fn with_step(mut flow: Flow, x: u8, y: u8) -> Flow
     flow
 }
 
+// No route goes from x to y any more.
 fn without_step(mut flow: Flow, x: u8, y: u8) -> Flow
     requires { ⌜ x < 8 ⌝ }
     ensures { λ r. ⌜ r ≡ withoutStep x y flow ⌝ }
@@ -55,7 +57,8 @@ fn without_step(mut flow: Flow, x: u8, y: u8) -> Flow
     flow
 }
 
-// The step from the entry side of x to the leaving side of q.
+// The step from the entry side of x to the leaving side of q: the new route passes x, or takes over
+// what came from q to x.
 fn step_in(flow: Flow, x: u8, q: u8) -> Flow
     requires { ⌜ q < 8 ⌝ }
     ensures { λ r. ⌜ r ≡ stepIn x q flow ⌝ }
@@ -66,7 +69,8 @@ fn step_in(flow: Flow, x: u8, q: u8) -> Flow
     without_step(flow, q, x)
 }
 
-// The step from the leaving side of x to the entry side of y.
+// The step from the leaving side of x to the entry side of y: the new route goes on to y, or takes
+// over what came to x.
 fn step_out(flow: Flow, x: u8, y: u8) -> Flow
     requires { ⌜ x < 8 ⌝ }
     ensures { λ r. ⌜ r ≡ stepOut x y flow ⌝ }
@@ -77,7 +81,7 @@ fn step_out(flow: Flow, x: u8, y: u8) -> Flow
     with_step(flow, x, y)
 }
 
-// Nothing found.
+// Nothing found: the flow as it is, and the sides seen.
 pub fn lost(flow: Flow, entered: u8, left: u8) -> Sought
     ensures { λ r. ⌜ r ≡ lost flow entered left ⌝ }
 {
@@ -102,7 +106,7 @@ pub fn ended(flow: Flow, entered: u8, left: u8, x: u8) -> Sought
     }
 }
 
-// Before the first route, nothing is sought and no flow is there.
+// The flow before the first route is sought.
 pub fn unsought() -> Sought
     ensures { λ r. ⌜ r ≡ reached noFlow 0 0 ⌝ }
 {

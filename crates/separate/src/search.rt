@@ -1,4 +1,7 @@
-// The search for one route more, and the flow that it ends with.
+// The search for one route more, and the flow that it ends with. A server but the receiver has an
+// entry side and a leaving side, and one route at most goes from the one to the other. The flow goes
+// down the search as it is, and is changed on the way back from the receiver only: so a try that
+// finds nothing leaves nothing to undo.
 use crate::changes;
 use crate::sides;
 use flow::Flow;
@@ -7,11 +10,21 @@ ghost use mathlib.Core.Path.{_≡_};
 ghost use Prim.Native.Nat.{_<_};
 ghost use Rattle.flow.specs.Search.{enter, leave, seek, flowTo};
 
-// Sixteen sides, none twice.
+// The allowance of a search: there are sixteen sides, and none is tried twice.
 const SIDES: u8 = 17;
 
-// The search from the entry side of x.
-fn enter(allowance: u8, rows: &[u8; 8], inner: u8, last: u8, flow: Flow, entered: u8, left: u8, x: u8) -> Sought
+// The search from the entry side of x: to its leaving side, or, if a route passes x, back to the
+// leaving side of the server before it.
+fn enter(
+    allowance: u8,
+    rows: &[u8; 8],
+    inner: u8,
+    last: u8,
+    flow: Flow,
+    entered: u8,
+    left: u8,
+    x: u8,
+) -> Sought
     requires { ⌜ x < 8 ⌝ }
     ensures { λ r. ⌜ r ≡ enter allowance (now (rows .entry)) inner last flow entered left x ⌝ }
 {
@@ -31,8 +44,18 @@ fn enter(allowance: u8, rows: &[u8; 8], inner: u8, last: u8, flow: Flow, entered
     changes::lost(flow, seen, left)
 }
 
-// The search from the leaving side of x.
-fn leave(allowance: u8, rows: &[u8; 8], inner: u8, last: u8, flow: Flow, entered: u8, left: u8, x: u8) -> Sought
+// The search from the leaving side of x: to the receiver, or to the entry sides of the servers ahead
+// in turn, x itself among them if a route passes x.
+fn leave(
+    allowance: u8,
+    rows: &[u8; 8],
+    inner: u8,
+    last: u8,
+    flow: Flow,
+    entered: u8,
+    left: u8,
+    x: u8,
+) -> Sought
     requires { ⌜ x < 8 ⌝ }
     ensures { λ r. ⌜ r ≡ leave allowance (now (rows .entry)) inner last flow entered left x ⌝ }
 {
@@ -63,7 +86,8 @@ fn leave(allowance: u8, rows: &[u8; 8], inner: u8, last: u8, flow: Flow, entered
     tried
 }
 
-// The search from the entry sides of the sources.
+// The search from the entry sides of the sources in turn: the flow with one route more; or the flow
+// as it is, and the sides seen.
 fn seek(rows: &[u8; 8], inner: u8, last: u8, sources: u8, flow: Flow) -> Sought
     ensures { λ r. ⌜ r ≡ seek (now (rows .entry)) inner last sources flow ⌝ }
 {

@@ -28,7 +28,8 @@ pub fn behind(flow: Flow, x: u8) -> u8
     x
 }
 
-// The servers to whose entry side the leaving side of x leads.
+// The servers to whose entry side the leaving side of x leads: those linked from x that no route goes
+// to from x, and x itself if a route passes x.
 pub fn ahead(rows: &[u8; 8], inner: u8, flow: Flow, x: u8) -> u8
     requires { ⌜ x < 8 ⌝ }
     ensures { λ r. ⌜ r ≡ ahead (now (rows .entry)) inner flow x ⌝ }

@@ -1,4 +1,4 @@
-// The routes of a flow.
+// The routes of a flow, a step at a time.
 use flow::Flow;
 ghost use mathlib.Core.Path.{_≡_};
 ghost use lib.ListN.{getD};
@@ -16,7 +16,8 @@ fn following(flow: Flow, x: u8) -> u8
     8
 }
 
-// The eight bytes of the route from `start`: the servers up to the receiver, then the fill.
+// The eight bytes of the route from `start`: the servers up to the receiver, then the fill. The
+// eighth server can only be the receiver.
 pub fn operand(flow: Flow, receiver: u8, start: u8) -> [u8; 8]
     ensures { λ r. ⌜ r ≡ operand (trail flow receiver 7 start) ⌝ }
 {

@@ -1,5 +1,5 @@
 -- `separate::search::enter` and `separate::search::leave` meet their contracts, by one induction: they call each other, and the allowance is the measure
--- of both. The loop of `leave` has the invariant of Turns.antt: nothing is found so far, and what the rest of the servers give is what the whole
+-- of both. The invariant of the loop of `leave`: nothing is found so far, and what the rest of the servers give is what the whole
 -- gives. Assumes nothing.
 use mathlib.Core.Path.{_∙_, ap}
 use Prim.Native.Nat.{ℕ, _-_, _<_}
@@ -8,7 +8,8 @@ use borrow.Author.Needs.{needs}
 use borrow.Fn.Kinds.{In}
 use borrow.Fn.PlainCycle.{Measures, is, falls, and}
 use Rattle.sets.specs.Sets.{has, union}
-use Rattle.separate.proofs.Turns.{Entering, enter-none, enter-seen, enter-goes, enter-ends, trying-found, trying-fails, trying-passes, trying-ends, Leaving, TryingNext, leave-none, leave-ends, leave-tries}
+use Rattle.separate.proofs.Trying.{trying-found, trying-fails, trying-passes, trying-ends}
+use Rattle.separate.proofs.Ways.{Entering, enter-none, enter-seen, enter-goes, enter-ends, Leaving, TryingNext, leave-none, leave-ends, leave-tries}
 use Rattle.separate.proofs.search.enter.Reads as enter
 use Rattle.separate.proofs.search.enter.Kinds as enter-kinds
 use Rattle.separate.proofs.search.+enter+leave.Lts-enter as enter-lts

@@ -2,7 +2,7 @@
 -- is how many these are. Assumes nothing.
 use Prim.Native.Nat.{_-_}
 use Rattle.flow.specs.Search.{flowTo}
-use Rattle.separate.proofs.Turns.{Adding, adding-starts, adding-on, adding-ends, adding-done}
+use Rattle.separate.proofs.Adding.{Adding, adding-starts, adding-on, adding-ends, adding-done}
 use borrow.Author.Needs.{needs}
 use Rattle.separate.proofs.search.flow_to.Statement.{statement}
 use Rattle.separate.proofs.search.flow_to.Tie as tie

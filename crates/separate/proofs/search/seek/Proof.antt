@@ -1,7 +1,8 @@
 -- `separate::search::seek` meets its contract. The invariant of its loop: nothing is found so far, and what the rest of the sources give is what the
 -- whole gives. The measure is what is left of the eight. Assumes nothing.
 use Prim.Native.Nat.{_-_}
-use Rattle.separate.proofs.Turns.{TryingSources, seek-tries, trying-found, trying-fails, trying-passes, trying-ends}
+use Rattle.separate.proofs.Trying.{trying-found, trying-fails, trying-passes, trying-ends}
+use Rattle.separate.proofs.Adding.{TryingSources, seek-tries}
 use borrow.Author.Needs.{needs}
 use Rattle.separate.proofs.search.seek.Statement.{statement}
 use Rattle.separate.proofs.search.seek.Tie as tie
