@@ -65,7 +65,7 @@ pub fn weak_table(
     f: u8,
     fault: u8,
 ) -> [bool; 256]
-    ensures { λ r. ⌜ ((n : ℕ) (links : Links) → n ≤ 8 → servers ≡ full n → fault < 2 ^ n → Tables n links (now (sizes .entry)) (now (lower .entry)) (now (upper .entry)) → WeakTable n f links fault r) ⌝ }
+    ensures { λ r. ⌜ ((n : ℕ) (links : Links) → n ≤ 8 → servers ≡ full n → Tables n links (now (sizes .entry)) (now (lower .entry)) (now (upper .entry)) → WeakTable n f links fault r) ⌝ }
 {
     let limit = (servers as u16) + 1;
     let mut table = [false; 256];

@@ -1,4 +1,6 @@
+-- `choice::holds_weak` meets its contract: its two tests, one after the other. Assumes nothing.
 use borrow.Author.Needs.{needs}
+use Rattle.choice.proofs.Filled.{found-weak, found-less}
 use Rattle.choice.proofs.holds_weak.Statement.{statement}
 use Rattle.choice.proofs.holds_weak.Tie as tie
 use Rattle.choice.proofs.holds_weak.Reads as reads
@@ -6,21 +8,17 @@ use Rattle.choice.proofs.holds_weak.Lts as lts
 use Rattle.choice.proofs.any_less.Reads as any-less-reads
 use Rattle.network.proofs.split.is_weak.Reads as is-weak-reads
 
--- src/lib.rt:52:8
 is-weak-requires : tie.Need-is-weak-requires
 is-weak-requires c κs = search needs
 
--- src/lib.rt:53:9
 returns : tie.Need-returns
-returns c = ?
+returns c = λ n links few small t. found-weak _ _ _ (c .before .is-weak .ensures n links few small t) (c .if1 .taken)
 
--- src/lib.rt:55:5
 any-less-requires : tie.Need-any-less-requires
 any-less-requires c κs = search needs
 
--- src/lib.rt:41:1
 returns-2 : tie.Need-returns-2
-returns-2 c = ?
+returns-2 c = λ n links few small t. found-less _ _ _ (c .before .before .is-weak .ensures n links few small t) (c .before .if1 .left) _ (c .any-less .ensures)
 
 pub holds-weak-spec : {M : Type 1} → statement M
 holds-weak-spec = tie.close (tie.spec is-weak-requires returns any-less-requires returns-2)

@@ -1,14 +1,6 @@
-use mathlib.Core.Path.{_≡_, refl, sym, ap, _∙_}
-use mathlib.Core.Logic.{_⊎_, inl, inr, ⊎-elim}
-use mathlib.Core.Bool.{Bool, true, false, cond}
-use mathlib.Core.List.{List, [], _∷_, _++_}
-use Prim.Native.Nat.{ℕ, zero, suc, _+_, _-_, _*_, _≤_, _<_}
-use native.Mathlib.Omega.{arith}
-use native.Mathlib.Numerals.{add-one}
-use lib.ListN.{length, getD, set, take, drop, length-set}
-use lib.Dec.{eqb, ltb, leb}
+-- `choice::less_at` meets its contract. The table is looked up at the set without x (`less-there`). Assumes nothing.
 use borrow.Author.Needs.{needs}
-use borrow.Author.Tests.{lt-ltb, le-ltb, le-leb, lt-leb, eq-eqb, ne-eqb}
+use Rattle.choice.proofs.Filled.{less-there, less-gone}
 use Rattle.choice.proofs.less_at.Statement.{statement}
 use Rattle.choice.proofs.less_at.Tie as tie
 use Rattle.choice.proofs.less_at.Reads as reads
@@ -17,33 +9,26 @@ use Rattle.sets.proofs.member.Reads as member-reads
 use Rattle.sets.proofs.minus.Reads as minus-reads
 use Rattle.sets.proofs.single.Reads as single-reads
 
--- src/lib.rt:20:8
 member-requires : tie.Need-member-requires
 member-requires c κs = search needs
 
--- src/lib.rt:21:13
 single-requires : tie.Need-single-requires
 single-requires c κs = search needs
 
--- src/lib.rt:22:20
 minus-requires : tie.Need-minus-requires
 minus-requires c κs = search needs
 
--- src/lib.rt:22:20
 cast-less : tie.Need-cast-less
 cast-less c = search needs
 
--- src/lib.rt:23:16
 element-copy-out-result : tie.Need-element-copy-out-result
 element-copy-out-result c = search needs
 
--- src/lib.rt:23:9
 returns : tie.Need-returns
-returns c = search needs
+returns c = less-there _ _ _ _ (c .before .before .before .before .member .ensures) (c .before .before .before .if1 .taken) _ _ (c .before .before .single .ensures) (c .before .minus .ensures)
 
--- src/lib.rt:17:1
 returns-2 : tie.Need-returns-2
-returns-2 c = search needs
+returns-2 c = less-gone _ _ _ _ (c .before .member .ensures) (c .if1 .left)
 
 pub less-at-spec : {M : Type 1} → statement M
 less-at-spec =

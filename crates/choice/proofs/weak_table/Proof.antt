@@ -1,3 +1,10 @@
+-- `choice::weak_table` meets its contract. The invariant of its loop, `Filling`: the entries of the sets apart from F before this one are made. The measure
+-- is what is left of the sets of servers. Assumes nothing.
+use mathlib.Core.Path.{refl}
+use Prim.Native.Nat.{_-_}
+use native.Mathlib.Omega.{arith}
+use borrow.Author.Needs.{needs}
+use Rattle.choice.proofs.Filled.{Filling, filling-starts, filling-turn, filling-falls, filling-ends}
 use Rattle.choice.proofs.weak_table.Statement.{statement}
 use Rattle.choice.proofs.weak_table.Tie as tie
 use Rattle.choice.proofs.weak_table.Reads as reads
@@ -6,54 +13,43 @@ use Rattle.choice.proofs.holds_weak.Reads as holds-weak-reads
 use Rattle.sets.proofs.next_apart.Reads as next-apart-reads
 
 abbrev Inv-loop : tie.InvT-loop
-Inv-loop sizes lower upper servers f fault limit table₀ at₀ table at = ?
+Inv-loop sizes lower upper servers f fault limit table₀ at₀ table at = Filling f sizes lower upper fault at table
 
 abbrev μ-loop : tie.MeasureT-loop
-μ-loop sizes lower upper servers f fault limit table₀ at₀ table at = ?
+μ-loop sizes lower upper servers f fault limit table₀ at₀ table at = limit - at
 
--- src/lib.rt:70:17
 add-limit : tie.Need-add-limit Inv-loop μ-loop
-add-limit c = ?
+add-limit c = search needs
 
--- src/lib.rt:72:9
 next-apart-requires : tie.Need-next-apart-requires Inv-loop μ-loop
-next-apart-requires c κs = ?
+next-apart-requires c κs = search needs
 
--- src/lib.rt:73:5
 loop-holds : tie.Need-loop-holds Inv-loop μ-loop
-loop-holds c = ?
+loop-holds c = filling-starts _ _ _ _ _ _ _ (c .next-apart .ensures) refl refl
 
--- src/lib.rt:74:19
 cast-set : tie.Need-cast-set Inv-loop μ-loop
-cast-set c = ?
+cast-set c = search needs
 
--- src/lib.rt:75:13
 holds-weak-requires : tie.Need-holds-weak-requires Inv-loop μ-loop
-holds-weak-requires c κs = ?
+holds-weak-requires c κs = search needs
 
--- src/lib.rt:76:15
 cast-table : tie.Need-cast-table Inv-loop μ-loop
-cast-table c = ?
+cast-table c = search needs
 
--- src/lib.rt:76:9
 array-write-table : tie.Need-array-write-table Inv-loop μ-loop
-array-write-table c = ?
+array-write-table c = search needs
 
--- src/lib.rt:77:9
 next-apart-requires-2 : tie.Need-next-apart-requires-2 Inv-loop μ-loop
-next-apart-requires-2 c κs = ?
+next-apart-requires-2 c κs = search needs
 
--- src/lib.rt:73:5
 loop-less : tie.Need-loop-less Inv-loop μ-loop
-loop-less c = ?
+loop-less c = filling-falls _ _ _ _ _ _ _ (c .before .before .before .before .loop .inv) _ (c .next-apart2 .ensures) _ (omega arith)
 
--- src/lib.rt:73:5
 loop-again : tie.Need-loop-again Inv-loop μ-loop
-loop-again c = ?
+loop-again c = filling-turn _ _ _ _ _ _ _ (c .before .before .before .before .loop .inv) _ (c .next-apart2 .ensures) (omega arith) _ (c .before .holds-weak .ensures)
 
--- src/lib.rt:60:1
 returns : tie.Need-returns Inv-loop μ-loop
-returns c = ?
+returns c = filling-ends _ _ _ _ _ _ _ (c .before .loop .inv) _ (c .loop-test .left)
 
 pub weak-table-spec : {M : Type 1} → statement M
 weak-table-spec =
