@@ -23,7 +23,7 @@ use Rattle.condition.proofs.Partitions.{member-of}
 use Rattle.planner.specs.Choice.{holdsWeak}
 use Rattle.planner.proofs.WeakSets.{weak-some}
 use Rattle.planner.proofs.Hitting.{has-left, left-has, only-out, only-has}
-use Rattle.planner.proofs.Reporters.{within-of}
+use Rattle.planner.proofs.Hitting.{within-of}
 
 -- what is taken out of a set and what is left are the whole
 minus-meet : (a b : ℕ) → minus a b + meet a b ≡ a
