@@ -4,18 +4,18 @@
 --     without-..   the three answers of `without`
 --     thinning-..  the loop of `quorum`
 -- Assumes nothing.
-use mathlib.Core.Path.{_≡_, refl, sym, ap, _∙_}
-use mathlib.Core.Bool.{Bool, true, false, cond, not, _&&_}
+use mathlib.Core.Path.{_≡_, refl, ap, _∙_}
+use mathlib.Core.Bool.{Bool, true, false, not}
 use mathlib.Core.List.{List}
-use Prim.Native.Nat.{ℕ, zero, suc, _+_, _-_, _^_, _≤_, _<_}
+use Prim.Native.Nat.{ℕ, suc, _+_, _-_, _≤_, _<_}
 use native.Mathlib.Omega.{arith}
 use native.Mathlib.Numerals.{add-one}
 use lib.ListN.{getD}
 use Rattle.facts.proofs.Bools.{cases}
 use Rattle.sets.specs.Sets.{has, single, meet, minus, full}
-use Rattle.sets.proofs.Members.{minus-small, meet-apart, apart-meet, has-minus}
+use Rattle.sets.proofs.Members.{minus-small, apart-meet, has-minus}
 use Rattle.network.specs.Links.{Links}
-use Rattle.planner.specs.Choice.{holdsWeak, meetsAll, sideOf, without, thinned, quorumOf}
+use Rattle.planner.specs.Choice.{meetsAll, sideOf, without, thinned, quorumOf}
 use Rattle.planner.proofs.Hitting.{sound-small}
 use Rattle.choice.specs.WeakTable.{WeakTable}
 use Rattle.choice.proofs.Smaller.{less-apart}

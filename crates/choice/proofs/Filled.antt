@@ -1,11 +1,13 @@
 -- The loop that fills the table: before the turn of a set the entries of all smaller sets apart from F are made, and its own follows from them.
---     less-..      one server left out; some-.. the loop over the eight servers; made-.. a set's entry
---     filling-..   the loop over the sets apart from F
+--     less-..      the two answers of `less_at`
+--     passing-..   the loop of `any_less` over the eight servers
+--     found-..     the two answers of `holds_weak`
+--     filling-..   the loop of `weak_table` over the sets apart from F
 -- Assumes nothing.
-use mathlib.Core.Path.{_≡_, refl, sym, ap, _∙_}
-use mathlib.Core.Bool.{Bool, true, false, not, _&&_, _||_}
+use mathlib.Core.Path.{_≡_, sym, ap, _∙_}
+use mathlib.Core.Bool.{Bool, true, false, _||_}
 use mathlib.Core.List.{List}
-use Prim.Native.Nat.{ℕ, zero, suc, _+_, _-_, _^_, _≤_, _<_}
+use Prim.Native.Nat.{ℕ, _+_, _-_, _^_, _≤_, _<_}
 use native.Mathlib.Omega.{arith}
 use lib.ListN.{length, getD, set, length-set}
 use lib.Seq.{getD-set-same, getD-set-other}
@@ -13,12 +15,12 @@ use lib.Pow.{pow-pos}
 use lib.Dec.{eqb, leb}
 use borrow.Author.Tests.{eqb-true, eqb-false, leb-true, leb-false}
 use Rattle.facts.proofs.Bools.{cases}
-use Rattle.sets.specs.Sets.{Set, has, single, meet, minus, full, next}
-use Rattle.sets.proofs.Members.{minus-small, meet-comm, meet-nothing}
+use Rattle.sets.specs.Sets.{has, single, meet, minus, full, next}
+use Rattle.sets.proofs.Members.{meet-comm, meet-nothing}
 use Rattle.sets.proofs.Apart.{next-apart, next-after, next-least}
 use Rattle.network.specs.Links.{Links}
 use Rattle.network.specs.Split.{someBelow}
-use Rattle.network.specs.Weak.{outside, weak}
+use Rattle.network.specs.Weak.{outside}
 use Rattle.network.specs.Sources.{Tables}
 use Rattle.network.proofs.Neighbours.{someBelow-same, some-of, none-of}
 use Rattle.network.proofs.Weakness.{weak-is}
@@ -105,7 +107,7 @@ module _ (f : ℕ) (sizes lower upper : List ℕ) (F : ℕ) where
             rw x (z ∙ sym (holds-empty n f links F few));
       }
 
-  -- the loop's test and the entry that it makes
+  -- b is what `holds_weak` says of the set `at`
   abbrev pub Answers : (table : List Bool) (at : ℕ) (b : Bool) → Type 0
   Answers table at b =
       (n : ℕ) (links : Links) → n ≤ 8 → at < 2 ^ n → Tables n links sizes lower upper → b ≡ (leb (outside n links F at) f || anyLess table at)

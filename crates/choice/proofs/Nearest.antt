@@ -1,12 +1,11 @@
 -- The loop that takes the lowest servers: those taken, with the lowest of what is left, are the lowest of the whole.
 --     nearest-..   the loop of `reporters`
 -- Assumes nothing.
-use mathlib.Core.Path.{_≡_, refl, sym, ap, _∙_}
-use mathlib.Core.Bool.{Bool, true, false, _||_, or-assoc}
-use Prim.Native.Nat.{ℕ, zero, suc, _+_, _-_, _≤_, _<_}
+use mathlib.Core.Path.{_≡_, sym, ap, _∙_}
+use mathlib.Core.Bool.{or-assoc}
+use Prim.Native.Nat.{ℕ, suc, _+_, _-_, _≤_, _<_}
 use native.Mathlib.Omega.{arith}
 use lib.Bits.{or-zero-l, or-zero-r}
-use Rattle.facts.proofs.Bools.{cases}
 use Rattle.sets.specs.Sets.{has, single, union, minus, lowest}
 use Rattle.sets.proofs.Members.{has-union, same-all}
 use Rattle.planner.specs.Plan.{lowestOf}

@@ -1,8 +1,8 @@
 -- The table of the sets that hold a weak set, for one F. A set that holds one is weak itself, or holds one that lacks some server of it; so an entry
 -- follows from those of smaller sets.
---     lessAt table X x            == x is in X, and X without x is in the table
---     anyLess table X             == so is X without some server of it
---     WeakTable n f links F table <-> for each set apart from F the table says whether it holds a weak set
+--     lessAt table X x             == x is in X, and the table marks X without x
+--     anyLess table X              == the table marks X without some server of it
+--     WeakTable n f links F table <-> the table marks, of the sets apart from F, those that hold a weak set
 use mathlib.Core.Path.{_≡_}
 use mathlib.Core.Bool.{Bool, false, _&&_}
 use mathlib.Core.List.{List}
@@ -13,7 +13,7 @@ use Rattle.network.specs.Links.{Links}
 use Rattle.network.specs.Split.{someBelow}
 use Rattle.planner.specs.Choice.{holdsWeak}
 
--- x is in X, and what is left of X without x is a set that the table marks
+-- x is in X, and the table marks what is left of X without x
 unfoldable pub lessAt : List Bool → (X x : ℕ) → Bool
 lessAt table X x = has X x && getD table (minus X (single x)) false
 

@@ -2,7 +2,7 @@
 // For one F a table says which sets hold a weak set; the choices look it up.
 use network::split;
 ghost use mathlib.Core.Path.{_≡_};
-ghost use mathlib.Core.Bool.{_&&_, _||_};
+ghost use mathlib.Core.Bool.{_||_};
 ghost use Prim.Native.Nat.{ℕ, _^_, _≤_, _<_};
 ghost use lib.Dec.{leb};
 ghost use Rattle.sets.specs.Sets.{full, minus};
