@@ -156,7 +156,7 @@ module _ (n f : ℕ) (links : Links) (few : n ≤ 8) (F k : ℕ) where
         let z = has-only k v c in
         clash (has F k) h (rw z at ((has-sound n F v d) .1)))
 
-    pub report-right : IsReport n f links F (reportTo links f (minus (full n) F) k)
+    pub report-right : IsReport n f links F (reportTo links (minus (full n) F) (f + 1) k)
     unfolding reportTo
     report-right =
         let m = reporters-many in

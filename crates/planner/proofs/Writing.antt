@@ -73,9 +73,9 @@ pair-each Q ss (r ∷ rs) h =
 
 -- reports
 
-report-to : (links : Links) (f W k : ℕ) → reportsTo (reportTo links f W k) ≡ k
+report-to : (links : Links) (W k r : ℕ) → reportsTo (reportTo links W k r) ≡ r
 unfolding reportTo
-report-to links f W k = refl
+report-to links W k r = refl
 
 told-all : (h : ℕ → Report) (ks : List ℕ) → ((k : ℕ) → reportsTo (h k) ≡ k) → map reportsTo (map h ks) ≡ ks
 told-all h [] e = refl
@@ -158,13 +158,13 @@ module _ (n f : ℕ) (links : Links) (p : Proper n f links) (g : firstBad n f li
 
       -- the routes of 13, receiver by receiver
       fans-right : (rs : List ℕ) → Different rs → Each (λ r. In (has (minus (minus (full n) F) S)) r) rs
-          → (map receiverOf (fansTo (rowsOf (linkedIn links)) f (minus (full n) F) S rs) ≡ repeated (f + 1) rs) × Each (λ p. In (has S) (sourceOf p)) (fansTo (rowsOf (linkedIn links)) f (minus (full n) F) S rs)
-          × Each (IsRoute n links F) (fansTo (rowsOf (linkedIn links)) f (minus (full n) F) S rs) × AllSeparate (fansTo (rowsOf (linkedIn links)) f (minus (full n) F) S rs)
+          → (map receiverOf (fansTo (rowsOf (linkedIn links)) (minus (full n) F) S (f + 1) rs) ≡ repeated (f + 1) rs) × Each (λ p. In (has S) (sourceOf p)) (fansTo (rowsOf (linkedIn links)) (minus (full n) F) S (f + 1) rs)
+          × Each (IsRoute n links F) (fansTo (rowsOf (linkedIn links)) (minus (full n) F) S (f + 1) rs) × AllSeparate (fansTo (rowsOf (linkedIn links)) (minus (full n) F) S (f + 1) rs)
       unfolding fansTo repeated
       fans-right [] d h = (refl, λ p m. elim m [ ], λ p m. elim m [ ], tt)
       fans-right (r ∷ rs) d h =
           let us = routesTo (rowsOf (linkedIn links)) (minus (full n) F) S (f + 1) r in
-          let vs = fansTo (rowsOf (linkedIn links)) f (minus (full n) F) S rs in
+          let vs = fansTo (rowsOf (linkedIn links)) (minus (full n) F) S (f + 1) rs in
           let u = found-routes F S r (f + 1) (fan-found r (h r (List·Memᴰ·head refl))) in
           let (order, start, each, apart) = fans-right rs (d .1) (λ x m. h x (List·Memᴰ·tail m)) in (
             map-join receiverOf us vs ∙ ap (λ (l : List ℕ). l ++ map receiverOf vs) (map-same receiverOf us r (u .end) ∙ ap (λ (k : ℕ). replicate k r) (u .many)) ∙ ap (λ (l : List ℕ). replicate (f + 1) r ++ l) order,
@@ -173,7 +173,7 @@ module _ (n f : ℕ) (links : Links) (p : Proper n f links) (g : firstBad n f li
             separate-append us vs (u .separate) apart (λ p m q o e. d .0 (receiverOf q) (in-repeated (f + 1) rs (receiverOf q) (subst (λ (l : List ℕ). List·Memᴰ (receiverOf q) l) order (Memᴰ·map receiverOf o))) (e ∙ u .end p m)),
           )
 
-      pub fan-right : Fan n f links F S (minus (minus (full n) F) S) (fansTo (rowsOf (linkedIn links)) f (minus (full n) F) S (members (minus (minus (full n) F) S)))
+      pub fan-right : Fan n f links F S (minus (minus (full n) F) S) (fansTo (rowsOf (linkedIn links)) (minus (full n) F) S (f + 1) (members (minus (minus (full n) F) S)))
       fan-right =
           let (order, start, each, apart) = fans-right (members (minus (minus (full n) F) S)) (members-different (minus (minus (full n) F) S)) (λ r m. (members-in (minus (minus (full n) F) S) r m) .0) in
           record { order = order; start = start; routes = each; separate = apart }
@@ -252,8 +252,8 @@ module _ (n f : ℕ) (links : Links) (p : Proper n f links) (g : firstBad n f li
             inward = fan-nothing;
             among = mesh-right S q;
             outward = fan-right S q;
-            told = told-all (reportTo links f (minus (full n) F)) (members F) (λ k. report-to links f (minus (full n) F) k);
-            reports = each-map (reportTo links f (minus (full n) F)) (IsReport n f links F) (members F) (λ k m. report-right n f links (p .most) F k g small bound ((members-in F k m) .0) some-sound);
+            told = told-all (reportTo links (minus (full n) F) (f + 1)) (members F) (λ k. report-to links (minus (full n) F) (f + 1) k);
+            reports = each-map (reportTo links (minus (full n) F) (f + 1)) (IsReport n f links F) (members F) (λ k m. report-right n f links (p .most) F k g small bound ((members-in F k m) .0) some-sound);
           }
 
   pub block-right : (d : DueBlock) → List·Memᴰ d (due n f) → InBlock n f links d (blockOf n f links d)

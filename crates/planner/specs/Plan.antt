@@ -21,10 +21,10 @@ use Rattle.planner.specs.Choice.{sideOf, quorumOf}
 unfoldable pub routesTo : List ℕ → (W sources k r : ℕ) → List Route
 routesTo rows W sources k r = routesOf (flowTo rows W sources r k .flow) r
 
--- f + 1 to each receiver of the list
-unfoldable pub fansTo : List ℕ → (f W sources : ℕ) → List ℕ → List Route
-fansTo rows f W sources [] = []
-fansTo rows f W sources (r ∷ rs) = routesTo rows W sources (f + 1) r ++ fansTo rows f W sources rs
+-- k of them to each receiver of the list
+unfoldable pub fansTo : List ℕ → (W sources k : ℕ) → List ℕ → List Route
+fansTo rows W sources k [] = []
+fansTo rows W sources k (r ∷ rs) = routesTo rows W sources k r ++ fansTo rows W sources k rs
 
 -- one for each pair of a receiver and a source
 unfoldable pub meshOf : List ℕ → ℕ → List (ℕ × ℕ) → List Route
@@ -36,9 +36,9 @@ unfoldable pub lowestOf : (k s : ℕ) → ℕ
 lowestOf zero s = 0
 lowestOf (suc k) s = union (single (lowest s)) (lowestOf k (minus s (single (lowest s))))
 
--- who reports to k: the f + 1 lowest servers of W with a link to it
-unfoldable pub reportTo : Links → (f W k : ℕ) → Report
-reportTo links f W k = record { receiver = k; reporters = lowestOf (f + 1) (meet W (sourcesTo links k)) }
+-- who reports to r: the k lowest servers of W with a link to it
+unfoldable pub reportTo : Links → (W k r : ℕ) → Report
+reportTo links W k r = record { receiver = r; reporters = lowestOf k (meet W (sourcesTo links r)) }
 
 -- S lies within A, so there is no route into it from the rest of A
 unfoldable pub blockWith : (n f : ℕ) → Links → (F A S : ℕ) → Block
@@ -49,8 +49,8 @@ blockWith n f links F A S =
       quorum = S;
       inward = [];
       among = meshOf (rowsOf (linkedIn links)) (minus (full n) F) (pairsOf (members S) (members S));
-      outward = fansTo (rowsOf (linkedIn links)) f (minus (full n) F) S (members (minus (minus (full n) F) S));
-      reports = map (reportTo links f (minus (full n) F)) (members F);
+      outward = fansTo (rowsOf (linkedIn links)) (minus (full n) F) S (f + 1) (members (minus (minus (full n) F) S));
+      reports = map (reportTo links (minus (full n) F) (f + 1)) (members F);
     }
 
 unfoldable pub blockOf : (n f : ℕ) → Links → DueBlock → Block
