@@ -32,7 +32,7 @@ use Rattle.rules.specs.Rules.{IsRoute}
 use Rattle.rules.specs.Routable.{Passes}
 use Rattle.flow.specs.declared.Flow.{Flow}
 use Rattle.flow.specs.declared.Sought.{Sought}
-use Rattle.flow.specs.Search.{seek, linkedTo, flowTo}
+use Rattle.flow.specs.Search.{seek, lastIn, linking, linkedTo, flowTo}
 use Rattle.flow.specs.Routes.{cutOf, cut, separateRoutes}
 use Rattle.flow.specs.Theorems.{CutOff, sought, Cuts}
 use Rattle.flow.proofs.Kept.{Valid}
@@ -93,7 +93,7 @@ module _ (n F : ℕ) where
 
 module _ (n f : ℕ) (links : Links) (p : Proper n f links) (F r : ℕ) where
   last-in : (x : ℕ) → In (has (sound n F)) r → In (has (innerOf n F r)) x → linkedIn links x r ≡ true → In (has (lastOf n links F r)) x
-  unfolding linkedTo
+  unfolding lastIn linking
   last-in x w e l =
       let m = p .most in
       let h = sound-below n F x (inner-sound n F r x e) in

@@ -30,7 +30,7 @@ use Rattle.rules.proofs.Routes.{sound-small}
 use Rattle.rules.proofs.Fans.{Different, members-different}
 use Rattle.flow.specs.declared.Flow.{Flow}
 use Rattle.flow.specs.declared.Sought.{Sought}
-use Rattle.flow.specs.Search.{linkedTo, flowTo}
+use Rattle.flow.specs.Search.{lastIn, linking, linkedTo, flowTo}
 use Rattle.flow.specs.Routes.{trail, routesOf, cutOf, routes, cut, separateRoutes}
 use Rattle.flow.specs.Theorems.{Found, Finds}
 use Rattle.flow.proofs.Kept.{Valid}
@@ -54,7 +54,7 @@ minus-self W r l =
 
 -- the last servers of routes have a link to r, which is in W itself
 last-linked : (rows : List ℕ) (W r x : ℕ) → W < 256 → In (has (linkedTo rows W r)) x → In (has W) r × In (has (getD rows x 0)) r
-unfolding linkedTo
+unfolding lastIn linking
 last-linked rows W r x small e =
     cases (has W r)
     (λ t. let a : has (meet (minus W (single r)) (encode 8 (λ (y : ℕ). has (getD rows y 0) r))) x ≡ true = rw t at e in

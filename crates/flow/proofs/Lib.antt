@@ -1,3 +1,5 @@
+-- Membership  members of sets that are made of others
+-- Lowest      the k lowest members of a set
 -- Kept        flows: what is kept at the two sides of every server
 -- Updates     what each change of a flow changes
 -- Pushed      a search that finds something has a flow with one route more
@@ -8,6 +10,8 @@
 -- Cut         closed marks cut a valid flow, in as many servers as it has routes
 -- Cutting     what a search that finds nothing says of the network: the servers that it answers cut off every route
 -- Examples    the search computed on small networks
+pub mod Membership
+pub mod Lowest
 pub mod Kept
 pub mod Updates
 pub mod Pushed

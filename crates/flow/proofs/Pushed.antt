@@ -11,19 +11,21 @@ use mathlib.Core.Path.{_≡_, refl, sym, _∙_}
 use mathlib.Core.Logic.{_⊎_, ⊎-elim}
 use mathlib.Core.Bool.{true, false, cond, not, _&&_}
 use mathlib.Core.List.{List}
-use Prim.Native.Nat.{ℕ, zero, suc, _+_, _<_}
+use Prim.Native.Nat.{ℕ, zero, suc, _+_, _<_, _-_}
 use native.Mathlib.Omega.{arith}
 use lib.Dec.{eqb, ltb}
 use lib.ListN.{getD, replicate}
 use borrow.Author.Tests.{eqb-true, ne-eqb, ltb-true}
 use Rattle.facts.proofs.Bools.{cases, by-cond, clash, and-left, and-right, not-true, is-false, or-cases, bools}
-use Rattle.sets.specs.Sets.{Set, In, Out, has, single, union, meet, minus}
-use Rattle.sets.proofs.Members.{has-union, has-meet, has-minus, has-single, has-empty, has-below, minus-small}
+use Rattle.sets.specs.Sets.{Set, In, Out, has, single, union, meet, minus, size}
+use Rattle.sets.proofs.Members.{has-union, has-meet, has-minus, has-single, has-empty, has-below, minus-small, meet-comm}
 use Rattle.sets.proofs.Counts.{count-none}
 use Rattle.sets.proofs.LowestMember.{firstIn-found}
 use Rattle.flow.specs.declared.Flow.{Flow}
 use Rattle.flow.specs.declared.Sought.{Sought}
-use Rattle.flow.specs.Search.{noFlow, outIn, withStart, withEnd, withUse, withoutUse, withStep, withoutStep, lost, reached, changed, feeder, behind, stepIn, stepOut, tries, ahead, enter, leave, sides, seek, seekAll, linkedTo, flowTo}
+use Rattle.flow.specs.Search.{straight, outIn, withStart, withEnd, withUse, withoutUse, withStep, withoutStep, lost, reached, changed, feeder, behind, stepIn, stepOut, tries, ahead, enter, leave, sides, seek, seekAll, lowestOf, linkedTo, flowBy, flowTo}
+use Rattle.flow.proofs.Membership.{has-both, shared-small}
+use Rattle.flow.proofs.Lowest.{lowestOf-inside, lowestOf-few}
 use Rattle.flow.proofs.Kept.{nowhere, Kept, Valid}
 use Rattle.flow.proofs.Updates.{eqb-self, eqb-swap, one-nowhere, one-true, one-false, one-most, one-is, has-put, has-drop, one-put, one-drop, count-start, step-long, unstep-long, step-put, step-drop, into-put, from-put, into-drop, from-drop}
 
@@ -440,22 +442,25 @@ no-row zero x = refl
 no-row (suc n) zero = refl
 no-row (suc n) (suc x) = no-row n x
 
-no-step : (x y : ℕ) → outIn noFlow x y ≡ false
-unfolding outIn noFlow
-no-step x y = rw (no-row 8 x) (has-empty y)
+-- straight routes
 
-pub noFlow-valid : (rows : List ℕ) (inner last sources : ℕ) → Valid rows inner last sources 0 noFlow
-unfolding noFlow
-noFlow-valid rows inner last sources =
+no-step : (s x y : ℕ) → outIn (straight s) x y ≡ false
+unfolding outIn straight
+no-step s x y = rw (no-row 8 x) (has-empty y)
+
+pub straight-valid : (rows : List ℕ) (inner last sources s : ℕ) → ((x : ℕ) → In (has s) x → In (has inner) x × In (has last) x × In (has sources) x)
+    → Valid rows inner last sources (size s) (straight s)
+unfolding straight size
+straight-valid rows inner last sources s h =
     record {
       long = refl;
-      passes = λ x e. clash (has 0 x) e (has-empty x);
-      starts = λ x e. clash (has 0 x) e (has-empty x);
-      ending = λ x e. clash (has 0 x) e (has-empty x);
-      steps = λ x y e. clash (outIn noFlow x y) e (no-step x y);
-      entry = λ x l. let a = one-nowhere x in let b = one-false (has 0 x) (has-empty x) in let c = count-none 8 (λ (p : ℕ). outIn noFlow p x) (λ p h. no-step p x) in omega arith;
-      leaving = λ x l. let a = one-nowhere x in let b = one-false (has 0 x) (has-empty x) in let c = count-none 8 (outIn noFlow x) (λ p h. no-step x p) in omega arith;
-      value = count-none 8 (has 0) (λ i h. has-empty i);
+      passes = λ x e. (h x e) .0;
+      starts = λ x e. (h x e) .2;
+      ending = λ x e. (h x e) .1;
+      steps = λ x y e. clash (outIn (straight s) x y) e (no-step s x y);
+      entry = λ x l. let a = one-nowhere x in let c = count-none 8 (λ (p : ℕ). outIn (straight s) p x) (λ p h. no-step s p x) in omega arith;
+      leaving = λ x l. let a = one-nowhere x in let c = count-none 8 (outIn (straight s) x) (λ p h. no-step s x p) in omega arith;
+      value = refl;
     }
 
 -- the flow with k routes to r in W
@@ -469,11 +474,21 @@ module _ (rows : List ℕ) (W sources r k : ℕ) (small : W < 256) (alone : (x :
   sources-inner : (x : ℕ) → In (has (meet sources inner)) x → In (has inner) x
   sources-inner x e = and-right (has sources x) _ (sym (has-meet sources inner x) ∙ e)
 
+  -- the sources that are near
+  abbrev nearest : ℕ
+  nearest = lowestOf k (meet (meet sources inner) (linkedTo rows W r))
+
+  nearest-inside : (x : ℕ) → In (has nearest) x → In (has inner) x × In (has (linkedTo rows W r)) x × In (has (meet sources inner)) x
+  nearest-inside x e =
+      let (a, b) = has-both (meet sources inner) (linkedTo rows W r) x (lowestOf-inside k (meet (meet sources inner) (linkedTo rows W r)) x (shared-small 8 (meet sources inner) (linkedTo rows W r) (rw (meet-comm sources inner) (shared-small 8 inner sources inner-small))) e) in
+      (sources-inner x a, b, a)
+
   flow-outcome : Outcome rows inner (linkedTo rows W r) (meet sources inner) inner-small alone sources-inner k (flowTo rows W sources r k)
-  unfolding flowTo reached
+  unfolding flowBy reached
   flow-outcome =
-      all-outcome rows inner (linkedTo rows W r) (meet sources inner) inner-small alone sources-inner k k 0 (reached noFlow 0 0) (omega arith) refl
-      (noFlow-valid rows inner (linkedTo rows W r) (meet sources inner))
+      let l = lowestOf-few k (meet (meet sources inner) (linkedTo rows W r)) in
+      all-outcome rows inner (linkedTo rows W r) (meet sources inner) inner-small alone sources-inner (k - size nearest) k (size nearest) (reached (straight nearest) 0 0) (omega arith) refl
+      (straight-valid rows inner (linkedTo rows W r) (meet sources inner) nearest nearest-inside)
 
   pub flow-valid : (flowTo rows W sources r k) .found ≡ true
       → Valid rows (minus W (single r)) (linkedTo rows W r) (meet sources (minus W (single r))) k ((flowTo rows W sources r k) .flow)

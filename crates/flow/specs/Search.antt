@@ -9,20 +9,26 @@
 --     leave    the search from the leaving side of x: to the receiver, to the entry side of a next server, or back to the entry side of x if a
 --              route passes x
 --     seek     the search from the entry sides of the sources: the flow with one route more; or, not found, the flow as it was and the sides seen
---     flowTo   the flow with k routes, one sought after the other; or the search that did not find one more
+--     flowTo   the flow with k routes, straight ones first, then one sought after the other; or the search that did not find one more
 use mathlib.Core.Bool.{Bool, true, false, cond, not, _&&_}
 use mathlib.Core.List.{List}
-use Prim.Native.Nat.{ℕ, zero, suc}
+use Prim.Native.Nat.{ℕ, zero, suc, _-_}
 use lib.Dec.{eqb, ltb}
 use lib.ListN.{getD, set, replicate}
-use Rattle.sets.specs.Sets.{has, single, union, meet, minus, encode, firstIn}
+use Rattle.sets.specs.Sets.{has, single, union, meet, minus, encode, firstIn, size, lowest}
 use Rattle.flow.specs.declared.Flow.{Flow}
 use Rattle.flow.specs.declared.Sought.{Sought}
 
+-- the k lowest members of s, or all if it has not so many
+unfoldable pub lowestOf : (k s : ℕ) → ℕ
+lowestOf zero s = 0
+lowestOf (suc k) s = union (single (lowest s)) (lowestOf k (minus s (single (lowest s))))
+
 -- flows
 
-unfoldable pub noFlow : Flow
-noFlow = record { used = 0; start = 0; ends = 0; out = replicate 8 0 }
+-- a route straight to the receiver from each server of s
+unfoldable pub straight : ℕ → Flow
+straight s = record { used = s; start = s; ends = s; out = replicate 8 0 }
 
 -- x hands on to y
 unfoldable pub outIn : Flow → ℕ → ℕ → Bool
@@ -118,12 +124,26 @@ seekAll rows inner last sources (suc k) s =
     let t = seek rows inner last sources (s .flow) in
     cond (t .found) (seekAll rows inner last sources k t) t
 
--- the other servers of W with a link to r; none if r is not in W itself
-unfoldable pub linkedTo : List ℕ → (W r : ℕ) → ℕ
-linkedTo rows W r = cond (has W r) (meet (minus W (single r)) (encode 8 (λ (x : ℕ). has (getD rows x 0) r))) 0
+-- those of `near` that a route may pass before r: the other servers of W; none if r is not in W itself
+unfoldable pub lastIn : (near W r : ℕ) → ℕ
+lastIn near W r = cond (has W r) (meet (minus W (single r)) near) 0
 
--- k routes in W from the sources to r, where a source is not r
-unfoldable pub flowTo : List ℕ → (W sources r k : ℕ) → Sought
-flowTo rows W sources r k =
+-- the servers with a link to r
+unfoldable pub linking : List ℕ → ℕ → ℕ
+linking rows r = encode 8 (λ (x : ℕ). has (getD rows x 0) r)
+
+abbrev pub linkedTo : List ℕ → (W r : ℕ) → ℕ
+linkedTo rows W r = lastIn (linking rows r) W r
+
+-- k routes in W from the sources to r, where a source is not r and `near` are the servers with a link to r: first straight from the lowest sources
+-- that are near, then by the search
+unfoldable pub flowBy : List ℕ → (near W sources r k : ℕ) → Sought
+flowBy rows near W sources r k =
     let inner = minus W (single r) in
-    seekAll rows inner (linkedTo rows W r) (meet sources inner) k (reached noFlow 0 0)
+    let last = lastIn near W r in
+    let starts = meet sources inner in
+    let first = lowestOf k (meet starts last) in
+    seekAll rows inner last starts (k - size first) (reached (straight first) 0 0)
+
+abbrev pub flowTo : List ℕ → (W sources r k : ℕ) → Sought
+flowTo rows W sources r k = flowBy rows (linking rows r) W sources r k

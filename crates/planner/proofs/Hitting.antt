@@ -21,22 +21,13 @@ use Rattle.network.specs.Split.{good, firstBad, someBelow}
 use Rattle.network.specs.Weak.{weak}
 use Rattle.network.proofs.Neighbours.{some-at, none-at}
 use Rattle.condition.proofs.Partitions.{member-of}
-use Rattle.planner.specs.Choice.{holdsWeak, meetsAll, sideOf, without, thinned}
+use Rattle.flow.proofs.Membership.{has-both, has-left, left-has, shared-small, only-has}
+use Rattle.planner.specs.Choice.{holdsWeak, meetsAll, without, thinned, quorumOf, sideOf}
 use Rattle.planner.proofs.WeakSets.{weak-apart, weak-meets-weak}
 
 -- a server of V that is in both
 abbrev pub Shared : (n a b : ℕ) → Type 0
 Shared n a b = (x : ℕ) × (x < n) × In (has a) x × In (has b) x
-
-pub has-both : (a b x : ℕ) → In (has (meet a b)) x → In (has a) x × In (has b) x
-has-both a b x e = let z = sym (has-meet a b x) ∙ e in (and-left (has a x) (has b x) z, and-right (has a x) (has b x) z)
-
--- x is left when b is taken out of a
-pub has-left : (a b x : ℕ) → In (has (minus a b)) x → In (has a) x × Out (has b) x
-has-left a b x e = let z = sym (has-minus a b x) ∙ e in (and-left (has a x) (not (has b x)) z, not-true (has b x) (and-right (has a x) (not (has b x)) z))
-
-pub left-has : (a b x : ℕ) → In (has a) x → Out (has b) x → In (has (minus a b)) x
-left-has a b x p q = let z = has-minus a b x in cc
 
 -- V−F, by members
 pub sound-has : (n F x : ℕ) → x < n → Out (has F) x → In (has (minus (full n) F)) x
@@ -53,28 +44,6 @@ pub sound-count : (n F : ℕ) → count n (has (minus (full n) F)) + count n (ha
 sound-count n F =
     sym (count-apart n (has (minus (full n) F)) (has F) (λ i k a b. clash (has F i) b ((has-sound n F i a) .1)))
     ∙ count-all n (λ (i : ℕ). has (minus (full n) F) i || has F i) (λ i k. cases (has F i) (λ e. cases (has (minus (full n) F) i) (λ z. cc) (λ z. cc)) (λ e. let z = sound-has n F i k e in cc))
-
-pub shared-small : (n a b : ℕ) → a < 2 ^ n → meet a b < 2 ^ n
-unfolding meet
-shared-small n a b p = let q = and-le-l a b in omega arith
-
-pub nothing-shared : (a b : ℕ) → ((y : ℕ) → In (has a) y → In (has b) y → ⊥) → meet a b ≡ 0
-nothing-shared a b h = same-all (meet a b) 0 (λ y. is-false (has (meet a b) y) (λ e. let (p, q) = has-both a b y e in h y p q) ∙ sym (has-empty y))
-
--- every member of a is in b
-pub within-of : (a b : ℕ) → ((i : ℕ) → In (has a) i → In (has b) i) → within a b ≡ true
-unfolding within meet
-within-of a b h = eq-eqb (meet a b) a (same-all (meet a b) a (λ i. has-meet a b i ∙ same (has a i && has b i) (has a i) (and-left (has a i) (has b i)) (λ e. both (has a i) (has b i) e (h i e))))
-
--- single x, by members
-pub has-only : (x y : ℕ) → In (has (single x)) y → y ≡ x
-has-only x y e = sym (eqb-true x y (and-right (ltb x 8) (eqb x y) (sym (has-single x y) ∙ e)))
-
-pub only-out : (x y : ℕ) → (y ≡ x → ⊥) → Out (has (single x)) y
-only-out x y h = is-false (has (single x) y) (λ e. h (has-only x y e))
-
-pub only-has : (x : ℕ) → x < 8 → In (has (single x)) x
-only-has x k = has-single x x ∙ both (ltb x 8) (eqb x x) (lt-ltb x 8 k) (eq-eqb x x refl)
 
 module _ (n f : ℕ) (links : Links) (few : n ≤ 8) (F : ℕ) (small : F < 2 ^ n) where
   abbrev W : ℕ
@@ -123,7 +92,12 @@ module _ (n f : ℕ) (links : Links) (few : n ≤ 8) (F : ℕ) (small : F < 2 ^ 
 
   pub side-meets : firstBad n f links ≡ good → size F ≤ f → (P : ℕ) → meetsAll n f links F (sideOf n f links F P) ≡ true
   unfolding sideOf
-  side-meets g bound P = cases (meetsAll n f links F P) (λ e. rw e e) (λ e. rw e (meets-of (minus W P) (other (meets-not P e))))
+  side-meets g bound P =
+      cases (meetsAll n f links F P)
+      (λ e. cases (meetsAll n f links F (minus W P))
+      (λ q. cases (ltb (quorumOf n f links F P) (quorumOf n f links F (minus W P))) (λ l. rw (e, q, l) e) (λ l. rw (e, q, l) q))
+      (λ q. rw (e, q) e))
+      (λ e. rw e (meets-of (minus W P) (other (meets-not P e))))
     where
       -- a weak set meets the one that P misses, and outside P
       other : Missed P → (R : ℕ) → R < 2 ^ n → weak n f links F R ≡ true → Shared n R (minus W P)
@@ -155,15 +129,15 @@ module _ (n f : ℕ) (links : Links) (few : n ≤ 8) (F : ℕ) (small : F < 2 ^ 
       (λ q. let z : has (minus S (single y)) y ≡ true = cc in clash (has (single y) y) (only-has y k) ((has-left S (single y) y z) .1))
       (λ q. let z : has S y ≡ true = cc in cases (meetsAll n f links F (minus S (single y))) (λ t. cc) (λ t. t))
 
-  pub thinned-inside : (k y S x : ℕ) → In (has (thinned n f links F k y S)) x → In (has S) x
+  pub thinned-inside : (k S x : ℕ) → In (has (thinned n f links F k S)) x → In (has S) x
   unfolding thinned
-  thinned-inside zero y S x e = e
-  thinned-inside (suc k) y S x e = without-inside S y x (thinned-inside k (suc y) (without n f links F S y) x e)
+  thinned-inside zero S x e = e
+  thinned-inside (suc k) S x e = without-inside S k x (thinned-inside k (without n f links F S k) x e)
 
-  pub thinned-meets : (k y S : ℕ) → meetsAll n f links F S ≡ true → meetsAll n f links F (thinned n f links F k y S) ≡ true
+  pub thinned-meets : (k S : ℕ) → meetsAll n f links F S ≡ true → meetsAll n f links F (thinned n f links F k S) ≡ true
   unfolding thinned
-  thinned-meets zero y S e = e
-  thinned-meets (suc k) y S e = thinned-meets k (suc y) (without n f links F S y) (without-meets S y e)
+  thinned-meets zero S e = e
+  thinned-meets (suc k) S e = thinned-meets k (without n f links F S k) (without-meets S k e)
 
   fewer : (S S′ x : ℕ) → ((i : ℕ) → In (has S′) i → In (has S) i) → meetsAll n f links F (minus S (single x)) ≡ false → meetsAll n f links F (minus S′ (single x)) ≡ false
   fewer S S′ x h e =
@@ -171,15 +145,15 @@ module _ (n f : ℕ) (links : Links) (few : n ≤ 8) (F : ℕ) (small : F < 2 ^ 
       clash (meetsAll n f links F (minus S (single x)))
       (meets-more (minus S′ (single x)) (minus S (single x)) (λ i q. let (a, b) = has-left S′ (single x) i q in left-has S (single x) i (h i a) b) t) e
 
-  pub thinned-needs : (k y S x : ℕ) → y ≤ x → x < y + k → x < 8 → In (has (thinned n f links F k y S)) x
-      → meetsAll n f links F (minus (thinned n f links F k y S) (single x)) ≡ false
+  pub thinned-needs : (k S x : ℕ) → x < k → k ≤ 8 → In (has (thinned n f links F k S)) x
+      → meetsAll n f links F (minus (thinned n f links F k S) (single x)) ≡ false
   unfolding thinned
-  thinned-needs zero y S x a b c e = absurd (omega arith)
-  thinned-needs (suc k) y S x a b c e =
-      cases (eqb y x)
-      (λ q. let z = eqb-true y x q in
-      let s = thinned-inside k (suc y) (without n f links F S y) in
+  thinned-needs zero S x a b e = absurd (omega arith)
+  thinned-needs (suc k) S x a b e =
+      cases (eqb k x)
+      (λ q. let z = eqb-true k x q in
+      let s = thinned-inside k (without n f links F S k) in
       let i = s x e in
-      let w = without-needs S y (omega arith) (rw (← z) at i) in
-      fewer S (thinned n f links F k (suc y) (without n f links F S y)) x (λ j t. without-inside S y j (s j t)) (rw z at w))
-      (λ q. let z = eqb-false y x q in thinned-needs k (suc y) (without n f links F S y) x (omega arith) (omega arith) c e)
+      let w = without-needs S k (omega arith) (rw (← z) at i) in
+      fewer S (thinned n f links F k (without n f links F S k)) x (λ j t. without-inside S k j (s j t)) (rw z at w))
+      (λ q. let z = eqb-false k x q in thinned-needs k (without n f links F S k) x (omega arith) (omega arith) e)

@@ -37,7 +37,8 @@ use Rattle.rules.proofs.Served.{fan-disjoint}
 use Rattle.rules.proofs.SeparateRoutes.{fan-meets}
 use Rattle.rules.proofs.Whole.{block-long}
 use Rattle.planner.specs.Plan.{blockOf, planOf, planBytes, blockLength, lengths, planLength}
-use Rattle.planner.proofs.Hitting.{has-left, left-has, nothing-shared, has-sound, sound-small, sound-count}
+use Rattle.flow.proofs.Membership.{has-left, left-has, nothing-shared}
+use Rattle.planner.proofs.Hitting.{has-sound, sound-small, sound-count}
 use Rattle.planner.proofs.Writing.{block-right, block-quorum, order-right}
 
 -- products

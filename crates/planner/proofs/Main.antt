@@ -33,7 +33,7 @@ use Rattle.rules.specs.Blocks.{Block, decodePlan}
 use Rattle.planner.specs.Plan.{blockOf, planOf, planBytes, planLength}
 use Rattle.planner.specs.Write.{Writing, wrote, broken, unwritten, planOn, planFor, fitting, writeOn, writeInto, afterWrite, writtenIn}
 use Rattle.planner.specs.Theorems.{Writes, Shortest, Least, Chooses, Lengthy, Accepts, Refuses17, Unchanged, Untouched}
-use Rattle.planner.proofs.Hitting.{left-has}
+use Rattle.flow.proofs.Membership.{left-has}
 use Rattle.planner.proofs.Writing.{block-quorum, order-right, each-map}
 use Rattle.planner.proofs.Lengths.{plan-least, plan-exact}
 use Rattle.planner.proofs.Short.{length-few}

@@ -25,7 +25,8 @@ use Rattle.condition.proofs.Partitions.{member-of}
 use Rattle.planner.specs.Choice.{meetsAll}
 use Rattle.planner.proofs.Submodular.{outside-sub}
 use Rattle.planner.proofs.WeakSets.{weak-some, weak-apart, weak-few, weak-of, weak-meets-weak}
-use Rattle.planner.proofs.Hitting.{Shared, has-both, has-left, left-has, sound-has, has-sound, sound-small, sound-count, has-only, only-out, Missed, meets-at, meets-not}
+use Rattle.flow.proofs.Membership.{has-both, has-left, left-has, has-only, only-out}
+use Rattle.planner.proofs.Hitting.{Shared, sound-has, has-sound, sound-small, sound-count, Missed, meets-at, meets-not}
 
 pub record Quorum (n f : ℕ) (links : Links) (F S : ℕ) : Type 0 where
   pub inside : (x : ℕ) → In (has S) x → (x < n) × Out (has F) x

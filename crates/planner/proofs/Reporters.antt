@@ -1,6 +1,5 @@
 -- The servers that report to one of F: the f + 1 lowest of V−F with a link to it. There are so many, since else that server alone and V−F would be
 -- weak for the rest of F, and no two weak sets are apart.
---     lowestOf-..       the k lowest members of a set that has so many
 --     reporters-many    at least f + 1 servers of V−F have a link to a server of F
 --     report-right      the report that is written keeps its rule
 -- Assumes nothing.
@@ -24,56 +23,12 @@ use Rattle.network.specs.Weak.{outside, weak}
 use Rattle.network.specs.Sources.{sourcesTo}
 use Rattle.network.proofs.Neighbours.{some-at}
 use Rattle.rules.specs.Rules.{IsReport}
-use Rattle.planner.specs.Plan.{lowestOf, reportTo}
+use Rattle.flow.specs.Search.{lowestOf}
+use Rattle.flow.proofs.Lowest.{size-single, size-less, lowestOf-inside, lowestOf-size}
+use Rattle.planner.specs.Plan.{reportTo}
 use Rattle.planner.proofs.WeakSets.{weak-of, weak-meets-weak}
-use Rattle.planner.proofs.Hitting.{has-both, has-left, left-has, shared-small, nothing-shared, within-of, sound-has, has-sound, sound-small, has-only, only-out, only-has}
-
--- the lowest members
-
-size-single : (x : ℕ) → x < 8 → size (single x) ≡ 1
-unfolding size
-size-single x k =
-    count-without 8 x (has (single x)) k (only-has x k)
-    ∙ ap suc (count-none 8 (without x (has (single x))) (λ i j. cases (eqb i x) (λ e. cc) (λ e. let z = only-out x i (eqb-false i x e) in cc)))
-
-size-less : (s x : ℕ) → x < 8 → In (has s) x → size s ≡ suc (size (minus s (single x)))
-unfolding size
-size-less s x k h =
-    count-without 8 x (has s) k h
-    ∙ ap suc (count-same 8 (without x (has s)) (has (minus s (single x))) (λ i j. let m = has-minus s (single x) i in let t = has-single x i in let l = lt-ltb x 8 k in
-    cases (eqb i x)
-    (λ e. let z = eqb-true i x e in let y = eq-eqb x i (sym z) in cases (has s i) (λ a. cc) (λ a. cc))
-    (λ e. let y = ne-eqb x i (λ z. eqb-false i x e (sym z)) in cases (has s i) (λ a. cc) (λ a. cc))))
-
--- a set that is not empty has its lowest member, and it is one of the eight
-lowest-there : (s : ℕ) → s < 256 → 0 < size s → In (has s) (lowest s) × (lowest s < 8)
-lowest-there s b k =
-    let h = lowest-in s b (λ e. let z = ap size e ∙ size-empty in absurd (omega arith)) in
-    (h, has-below 8 s (lowest s) b h)
-
-pub lowestOf-inside : (k s x : ℕ) → s < 256 → k ≤ size s → In (has (lowestOf k s)) x → In (has s) x
-unfolding lowestOf
-lowestOf-inside zero s x b l e = clash (has 0 x) e (has-empty x)
-lowestOf-inside (suc k) s x b l e =
-    let (h, j) = lowest-there s b (omega arith) in
-    let z = size-less s (lowest s) j h in
-    ⊎-elim (λ t. let q = has-only (lowest s) x t in rw (← q) at h)
-    (λ t. (has-left s (single (lowest s)) x (lowestOf-inside k (minus s (single (lowest s))) x (minus-small 8 s (single (lowest s)) b) (omega arith) t)) .0)
-    (or-cases (has (single (lowest s)) x) (has (lowestOf k (minus s (single (lowest s)))) x) (sym (has-union (single (lowest s)) (lowestOf k (minus s (single (lowest s)))) x) ∙ e))
-
-pub lowestOf-size : (k s : ℕ) → s < 256 → k ≤ size s → size (lowestOf k s) ≡ k
-unfolding lowestOf
-lowestOf-size zero s b l = size-empty
-lowestOf-size (suc k) s b l =
-    let (h, j) = lowest-there s b (omega arith) in
-    let z = size-less s (lowest s) j h in
-    let c = minus-small 8 s (single (lowest s)) b in
-    let i = lowestOf-size k (minus s (single (lowest s))) c (omega arith) in
-    let m = nothing-shared (single (lowest s)) (lowestOf k (minus s (single (lowest s)))) (λ y a d.
-    clash (has (single (lowest s)) y) a ((has-left s (single (lowest s)) y (lowestOf-inside k (minus s (single (lowest s))) y c (omega arith) d)) .1)) in
-    let u = size-union (single (lowest s)) (lowestOf k (minus s (single (lowest s)))) m in
-    let o = size-single (lowest s) j in
-    omega arith
+use Rattle.flow.proofs.Membership.{has-both, has-left, left-has, shared-small, nothing-shared, within-of, has-only, only-out, only-has}
+use Rattle.planner.proofs.Hitting.{sound-has, has-sound, sound-small}
 
 -- who has a link to a server of F
 
@@ -162,7 +117,7 @@ module _ (n f : ℕ) (links : Links) (few : n ≤ 8) (F k : ℕ) where
         let m = reporters-many in
         let b = near-byte in
         record {
-          sound = within-of (lowestOf (f + 1) near) (minus (full n) F) (λ i e. (has-both (minus (full n) F) (sourcesTo links k) i (lowestOf-inside (f + 1) near i b m e)) .0);
+          sound = within-of (lowestOf (f + 1) near) (minus (full n) F) (λ i e. (has-both (minus (full n) F) (sourcesTo links k) i (lowestOf-inside (f + 1) near i b e)) .0);
           exact = lowestOf-size (f + 1) near b m;
-          linked = λ i e. (near-linked i (lowestOf-inside (f + 1) near i b m e)) .2;
+          linked = λ i e. (near-linked i (lowestOf-inside (f + 1) near i b e)) .2;
         }

@@ -44,7 +44,8 @@ use Rattle.flow.proofs.Cutting.{Unreached, lost-weak}
 use Rattle.planner.specs.Choice.{meetsAll, sideOf, quorumOf}
 use Rattle.planner.specs.Plan.{routesTo, fansTo, meshOf, reportTo, blockWith, blockOf, planOf}
 use Rattle.planner.proofs.WeakSets.{weak-of}
-use Rattle.planner.proofs.Hitting.{has-left, left-has, has-sound, sound-has, sound-small, sound-count, within-of, has-only, only-out, only-has, meets-at, side-meets, thinned-inside, thinned-meets, thinned-needs}
+use Rattle.flow.proofs.Membership.{has-left, left-has, within-of, has-only, only-out, only-has}
+use Rattle.planner.proofs.Hitting.{has-sound, sound-has, sound-small, sound-count, meets-at, side-meets, thinned-inside, thinned-meets, thinned-needs}
 use Rattle.planner.proofs.Quorums.{Quorum, quorum-few, quorum-many, quorum-joined}
 use Rattle.planner.proofs.Reporters.{report-right}
 
@@ -98,11 +99,13 @@ part-inside W P e = search bools
 module _ (n f : ℕ) (links : Links) (p : Proper n f links) (g : firstBad n f links ≡ good) where
   side-one : (F P : ℕ) → (sideOf n f links F P ≡ P) ⊎ (sideOf n f links F P ≡ minus (minus (full n) F) P)
   unfolding sideOf
-  side-one F P = cases (meetsAll n f links F P) (λ e. inl (rw e refl)) (λ e. inr (rw e refl))
+  side-one F P =
+      cases (meetsAll n f links F P && (not (meetsAll n f links F (minus (minus (full n) F) P)) || ltb (quorumOf n f links F P) (quorumOf n f links F (minus (minus (full n) F) P))))
+      (λ e. inl (rw e refl)) (λ e. inr (rw e refl))
 
   side-inside : (F P : ℕ) → within P (minus (full n) F) ≡ true → within (sideOf n f links F P) (minus (full n) F) ≡ true
-  unfolding sideOf
-  side-inside F P w = cases (meetsAll n f links F P) (λ e. rw e w) (λ e. rw e (within-of (minus (minus (full n) F) P) (minus (full n) F) (λ i h. (has-left (minus (full n) F) P i h) .0)))
+  side-inside F P w =
+      ⊎-elim (λ e. rw e w) (λ e. rw e (within-of (minus (minus (full n) F) P) (minus (full n) F) (λ i h. (has-left (minus (full n) F) P i h) .0))) (side-one F P)
 
   pub network-wide : 3 * f + 1 ≤ n
   network-wide = condition-wide n f (linkedIn links) (good-condition n f links (p .most) g) (p .least)
@@ -208,11 +211,11 @@ module _ (n f : ℕ) (links : Links) (p : Proper n f links) (g : firstBad n f li
       unfolding quorumOf
       choice-quorum =
           record {
-            inside = λ x h. has-sound n F x (within-in A (minus (full n) F) inside x (thinned-inside n f links (p .most) F small 8 0 A x h));
-            meets = thinned-meets n f links (p .most) F small 8 0 A meets;
-            needs = λ x h. let b = (has-sound n F x (within-in A (minus (full n) F) inside x (thinned-inside n f links (p .most) F small 8 0 A x h))) .0 in
+            inside = λ x h. has-sound n F x (within-in A (minus (full n) F) inside x (thinned-inside n f links (p .most) F small 8 A x h));
+            meets = thinned-meets n f links (p .most) F small 8 A meets;
+            needs = λ x h. let b = (has-sound n F x (within-in A (minus (full n) F) inside x (thinned-inside n f links (p .most) F small 8 A x h))) .0 in
                 let m = p .most in
-                thinned-needs n f links (p .most) F small 8 0 A x (omega arith) (omega arith) (omega arith) h;
+                thinned-needs n f links (p .most) F small 8 A x (omega arith) (omega arith) h;
           }
 
       abbrev S : ℕ
@@ -233,7 +236,7 @@ module _ (n f : ℕ) (links : Links) (p : Proper n f links) (g : firstBad n f li
       -- S lies within A
       nothing-inward : minus S A ≡ 0
       unfolding quorumOf
-      nothing-inward = same-all (minus S A) 0 (λ x. is-false (has (minus S A) x) (λ h. let (a, o) = has-left S A x h in clash (has A x) (thinned-inside n f links (p .most) F small 8 0 A x a) o) ∙ sym (has-empty x))
+      nothing-inward = same-all (minus S A) 0 (λ x. is-false (has (minus S A) x) (λ h. let (a, o) = has-left S A x h in clash (has A x) (thinned-inside n f links (p .most) F small 8 A x a) o) ∙ sym (has-empty x))
 
       fan-nothing : Fan n f links F A (minus S A) []
       unfolding repeated

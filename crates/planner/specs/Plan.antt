@@ -13,7 +13,7 @@ use Rattle.plan.specs.Members.{members}
 use Rattle.plan.specs.Due.{DueBlock, due}
 use Rattle.rules.specs.Blocks.{Route, Report, Block, encodePlan}
 use Rattle.rules.specs.Rules.{pairsOf}
-use Rattle.flow.specs.Search.{flowTo}
+use Rattle.flow.specs.Search.{lowestOf, flowTo}
 use Rattle.flow.specs.Routes.{routesOf}
 use Rattle.planner.specs.Choice.{sideOf, quorumOf}
 
@@ -30,11 +30,6 @@ fansTo rows W sources k (r ∷ rs) = routesTo rows W sources k r ++ fansTo rows 
 unfoldable pub meshOf : List ℕ → ℕ → List (ℕ × ℕ) → List Route
 meshOf rows W [] = []
 meshOf rows W (e ∷ es) = routesTo rows W (single (e .1)) 1 (e .0) ++ meshOf rows W es
-
--- the k lowest members of s
-unfoldable pub lowestOf : (k s : ℕ) → ℕ
-lowestOf zero s = 0
-lowestOf (suc k) s = union (single (lowest s)) (lowestOf k (minus s (single (lowest s))))
 
 -- who reports to r: the k lowest servers of W with a link to it
 unfoldable pub reportTo : Links → (W k r : ℕ) → Report

@@ -13,8 +13,7 @@ pub fn put_block(
     fault: u8,
     side: u8,
     quorum: u8,
-) -> usize
-{
+) -> usize {
     lent[start] = 16;
     lent[start + 1] = fault;
     lent[start + 2] = side;

@@ -75,8 +75,7 @@ fn put_cuts(
     servers: u8,
     f: u8,
     fault: u8,
-) -> usize
-{
+) -> usize {
     let sound = sets::minus(servers, fault);
     let limit = (servers as u16) + 1;
     let mut at = start;
