@@ -20,7 +20,7 @@ use Rattle.separate.proofs.changes.ended.Reads as ended-reads
 use Rattle.separate.proofs.changes.lost.Reads as lost-reads
 use Rattle.separate.proofs.changes.stepped_in.Reads as stepped-in-reads
 use Rattle.separate.proofs.changes.stepped_out.Reads as stepped-out-reads
-use Rattle.separate.proofs.sides.ahead.Reads as ahead-reads
+use Rattle.separate.proofs.search.ahead.Reads as ahead-reads
 use Rattle.separate.proofs.sides.behind.Reads as behind-reads
 use Rattle.sets.proofs.member.Reads as member-reads
 use Rattle.sets.proofs.minus.Reads as minus-reads
@@ -212,7 +212,7 @@ leave-enter-requires : (t : ℕ) → leave-lts.Need-enter-requires (leave-claims
 leave-enter-requires t c κs = search needs
 
 leave-stepped-out-requires : (t : ℕ) → leave-lts.Need-stepped-out-requires (leave-claims t) (leave-at t) leave.Post leave-Inv-loop leave-μ-loop
-leave-stepped-out-requires t c κs = c .before .before .before .before .before .before .before .before .before .before .before .before .before .before .pre .1
+leave-stepped-out-requires t c κs = search needs
 
 leave-returns-3 : (t : ℕ) → leave-lts.Need-returns-3 (leave-claims t) (leave-at t) leave.Post leave-Inv-loop leave-μ-loop
 leave-returns-3 t c =
