@@ -1,6 +1,5 @@
 -- A route laid out as the eight bytes of its operand, on plain lists: the route from x on, laid from place i on, gives the operand of the whole.
 --     Laying         what is laid so far, and the rest laid after it, are the operand
---     none-follows   past the eighth server there is no row, and no server is its lowest
 --     laying-..      the loop of `operand`: its start, a step, the step to the receiver, and the eighth server
 -- Assumes nothing.
 use mathlib.Core.Path.{_≡_, refl, sym, ap, _∙_}
@@ -9,19 +8,14 @@ use mathlib.Core.List.{List, [], _∷_, _++_}
 use Prim.Native.Nat.{ℕ, zero, suc, _+_, _-_, _≤_, _<_}
 use native.Mathlib.Numerals.{add-one}
 use native.Mathlib.Omega.{arith}
-use lib.ListN.{length, getD, set, drop, replicate, List·getD-eq-default}
+use lib.ListN.{length, getD, set, drop, replicate}
 use Rattle.facts.specs.Laid.{laid}
 use Rattle.facts.proofs.Bools.{cases}
 use Rattle.facts.proofs.Stores.{laid-whole}
 use Rattle.sets.specs.Sets.{has, lowest}
-use Rattle.sets.proofs.LowestMember.{lowest-empty}
 use Rattle.rules.specs.Blocks.{operand}
 use Rattle.flow.specs.declared.Flow.{Flow}
 use Rattle.flow.specs.Routes.{trail}
-
--- past the eighth server no route goes on
-pub none-follows : (out : List ℕ) (x : ℕ) → length out ≡ 8 → 8 ≤ x → 8 ≡ lowest (getD out x 0)
-none-follows out x l h = sym (ap lowest (List·getD-eq-default out 0 {n = x} (omega arith)) ∙ lowest-empty)
 
 trail-long : (φ : Flow) (r k x : ℕ) → length (trail φ r k x) ≤ suc k
 unfolding trail

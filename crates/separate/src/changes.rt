@@ -2,7 +2,6 @@
 use flow::Flow;
 use flow::Sought;
 ghost use mathlib.Core.Path.{_≡_};
-ghost use Prim.Native.Nat.{_<_};
 ghost use Rattle.flow.specs.Search.{noFlow, withStart, withEnd, withUse, withoutUse, withStep, withoutStep, stepIn, stepOut, lost, reached, changed};
 
 // A route starts at x.
@@ -39,28 +38,29 @@ fn without_use(mut flow: Flow, x: u8) -> Flow
 
 // A route goes from x to y.
 fn with_step(mut flow: Flow, x: u8, y: u8) -> Flow
-    requires { ⌜ x < 8 ⌝ }
     ensures { λ r. ⌜ r ≡ withStep x y flow ⌝ }
 {
-    let at = x as usize;
-    flow.out[at] = sets::union(flow.out[at], sets::single(y));
+    if x < 8 {
+        let at = x as usize;
+        flow.out[at] = sets::union(flow.out[at], sets::single(y));
+    }
     flow
 }
 
 // No route goes from x to y any more.
 fn without_step(mut flow: Flow, x: u8, y: u8) -> Flow
-    requires { ⌜ x < 8 ⌝ }
     ensures { λ r. ⌜ r ≡ withoutStep x y flow ⌝ }
 {
-    let at = x as usize;
-    flow.out[at] = sets::minus(flow.out[at], sets::single(y));
+    if x < 8 {
+        let at = x as usize;
+        flow.out[at] = sets::minus(flow.out[at], sets::single(y));
+    }
     flow
 }
 
 // The step from the entry side of x to the leaving side of q: the new route passes x, or takes over
 // what came from q to x.
 fn step_in(flow: Flow, x: u8, q: u8) -> Flow
-    requires { ⌜ q < 8 ⌝ }
     ensures { λ r. ⌜ r ≡ stepIn x q flow ⌝ }
 {
     if q == x {
@@ -72,7 +72,6 @@ fn step_in(flow: Flow, x: u8, q: u8) -> Flow
 // The step from the leaving side of x to the entry side of y: the new route goes on to y, or takes
 // over what came to x.
 fn step_out(flow: Flow, x: u8, y: u8) -> Flow
-    requires { ⌜ x < 8 ⌝ }
     ensures { λ r. ⌜ r ≡ stepOut x y flow ⌝ }
 {
     if y == x {
@@ -126,7 +125,6 @@ pub fn unsought() -> Sought
 
 // What was found, with the step into x before it.
 pub fn stepped_in(mut s: Sought, x: u8, q: u8) -> Sought
-    requires { ⌜ q < 8 ⌝ }
     ensures { λ r. ⌜ r ≡ changed (stepIn x q) s ⌝ }
 {
     if s.found {
@@ -138,7 +136,6 @@ pub fn stepped_in(mut s: Sought, x: u8, q: u8) -> Sought
 
 // What was found, with the step from x to y before it.
 pub fn stepped_out(mut s: Sought, x: u8, y: u8) -> Sought
-    requires { ⌜ x < 8 ⌝ }
     ensures { λ r. ⌜ r ≡ changed (stepOut x y) s ⌝ }
 {
     if s.found {

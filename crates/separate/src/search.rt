@@ -8,10 +8,22 @@ use flow::Flow;
 use flow::Sought;
 ghost use mathlib.Core.Path.{_≡_};
 ghost use Prim.Native.Nat.{_<_};
-ghost use Rattle.flow.specs.Search.{enter, leave, seek, flowTo};
+ghost use Rattle.flow.specs.Search.{ahead, enter, leave, seek, flowTo};
 
 // The allowance of a search: there are sixteen sides, and none is tried twice.
 const SIDES: u8 = 17;
+
+// The servers to whose entry side the leaving side of x leads: those linked from x that no route goes
+// to from x, and x itself if a route passes x.
+fn ahead(rows: &[u8; 8], inner: u8, flow: Flow, x: u8) -> u8
+    requires { ⌜ x < 8 ⌝ }
+    ensures { λ r. ⌜ r ≡ ahead (now (rows .entry)) inner flow x ⌝ }
+{
+    let at = x as usize;
+    let fresh = sets::minus(sets::meet(rows[at], inner), flow.out[at]);
+    let back = sets::meet(flow.used, sets::single(x));
+    sets::union(fresh, back)
+}
 
 // The search from the entry side of x: to its leaving side, or, if a route passes x, back to the
 // leaving side of the server before it.
@@ -67,7 +79,7 @@ fn leave(
         return changes::ended(flow, entered, seen, x);
     }
     let fewer = allowance - 1;
-    let choices = sides::ahead(rows, inner, flow, x);
+    let choices = ahead(rows, inner, flow, x);
     let mut tried = changes::lost(flow, entered, seen);
     let mut y: u8 = 0;
     while y < 8 {

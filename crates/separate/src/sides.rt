@@ -1,10 +1,10 @@
-// Where the entry side and the leaving side of a server lead to.
+// Where the entry side of a server leads to, and which leaving sides lead to the receiver.
 use flow::Flow;
 ghost use mathlib.Core.Path.{_≡_};
-ghost use Prim.Native.Nat.{ℕ, _<_};
+ghost use Prim.Native.Nat.{ℕ};
 ghost use lib.ListN.{getD};
 ghost use Rattle.sets.specs.Sets.{has, encode};
-ghost use Rattle.flow.specs.Search.{feeder, behind, ahead, linkedTo};
+ghost use Rattle.flow.specs.Search.{feeder, behind, linkedTo};
 
 // The lowest server from which a route goes to x; 8 if there is none.
 fn feeder(flow: Flow, x: u8) -> u8
@@ -26,18 +26,6 @@ pub fn behind(flow: Flow, x: u8) -> u8
         return feeder(flow, x);
     }
     x
-}
-
-// The servers to whose entry side the leaving side of x leads: those linked from x that no route goes
-// to from x, and x itself if a route passes x.
-pub fn ahead(rows: &[u8; 8], inner: u8, flow: Flow, x: u8) -> u8
-    requires { ⌜ x < 8 ⌝ }
-    ensures { λ r. ⌜ r ≡ ahead (now (rows .entry)) inner flow x ⌝ }
-{
-    let at = x as usize;
-    let fresh = sets::minus(sets::meet(rows[at], inner), flow.out[at]);
-    let back = sets::meet(flow.used, sets::single(x));
-    sets::union(fresh, back)
 }
 
 // The servers with a link to r.

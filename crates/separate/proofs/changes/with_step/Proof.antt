@@ -1,6 +1,8 @@
--- `separate::changes::with_step` meets its contract: row x is the union that `union` ensures, and the rest is as it was. Assumes nothing.
+-- `separate::changes::with_step` meets its contract: row x is what `union` ensures, and the rest is as it was; a server past the eighth has no row. Assumes
+-- nothing.
 use mathlib.Core.Path.{refl}
 use Rattle.flow.specs.Search.{withStep}
+use Rattle.separate.proofs.Beyond.{step-beyond}
 use borrow.Author.Needs.{needs}
 use Rattle.separate.proofs.changes.with_step.Statement.{statement}
 use Rattle.separate.proofs.changes.with_step.Tie as tie
@@ -25,7 +27,16 @@ returns : tie.Need-returns
 unfolding withStep
 returns c = rw (c .union .ensures, c .before .single .ensures) refl
 
+returns-2 : tie.Need-returns-2
+returns-2 c = step-beyond (c .before .args .t1) _ (search needs) (c .if1 .left) _
+
 pub with-step-spec : {M : Type 1} → statement M
 with-step-spec =
     tie.close
-    (tie.spec element-copy-out-union single-requires union-requires element-write-flow returns)
+    (tie.spec
+    element-copy-out-union
+    single-requires
+    union-requires
+    element-write-flow
+    returns
+    returns-2)

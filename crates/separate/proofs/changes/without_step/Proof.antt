@@ -1,6 +1,8 @@
--- `separate::changes::without_step` meets its contract: row x is the rest that `minus` ensures, and the other fields are as they were. Assumes nothing.
+-- `separate::changes::without_step` meets its contract: row x is what `minus` ensures, and the rest is as it was; a server past the eighth has no row. Assumes
+-- nothing.
 use mathlib.Core.Path.{refl}
 use Rattle.flow.specs.Search.{withoutStep}
+use Rattle.separate.proofs.Beyond.{unstep-beyond}
 use borrow.Author.Needs.{needs}
 use Rattle.separate.proofs.changes.without_step.Statement.{statement}
 use Rattle.separate.proofs.changes.without_step.Tie as tie
@@ -25,7 +27,16 @@ returns : tie.Need-returns
 unfolding withoutStep
 returns c = rw (c .minus .ensures, c .before .single .ensures) refl
 
+returns-2 : tie.Need-returns-2
+returns-2 c = unstep-beyond (c .before .args .t1) _ (search needs) (c .if1 .left) _
+
 pub without-step-spec : {M : Type 1} → statement M
 without-step-spec =
     tie.close
-    (tie.spec element-copy-out-minus single-requires minus-requires element-write-flow returns)
+    (tie.spec
+    element-copy-out-minus
+    single-requires
+    minus-requires
+    element-write-flow
+    returns
+    returns-2)

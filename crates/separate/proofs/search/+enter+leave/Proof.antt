@@ -1,6 +1,6 @@
 -- `separate::search::enter` and `separate::search::leave` meet their contracts, by one induction: they call each other, and the allowance is the measure
--- of both. The invariant of the loop of `leave`: nothing is found so far, and what the rest of the servers give is what the whole
--- gives. Assumes nothing.
+-- of both. The invariant of the loop of `leave`: nothing is found so far, and what the rest of the servers give is what the whole gives. Assumes
+-- nothing.
 use mathlib.Core.Path.{_∙_, ap}
 use Prim.Native.Nat.{ℕ, _-_, _<_}
 use native.Mathlib.Omega.{arith}
@@ -20,7 +20,7 @@ use Rattle.separate.proofs.changes.ended.Reads as ended-reads
 use Rattle.separate.proofs.changes.lost.Reads as lost-reads
 use Rattle.separate.proofs.changes.stepped_in.Reads as stepped-in-reads
 use Rattle.separate.proofs.changes.stepped_out.Reads as stepped-out-reads
-use Rattle.separate.proofs.sides.ahead.Reads as ahead-reads
+use Rattle.separate.proofs.search.ahead.Reads as ahead-reads
 use Rattle.separate.proofs.sides.behind.Reads as behind-reads
 use Rattle.sets.proofs.member.Reads as member-reads
 use Rattle.sets.proofs.minus.Reads as minus-reads
@@ -88,7 +88,7 @@ leave-claims t = (
   stepped-out-reads.Learnt,
 )
 
--- after the server behind x is known
+-- where the server behind x is known
 entering : (t : ℕ) (c : enter-lts.After-behind (enter-claims t) (enter-at t) enter.Post) →
     let a = c .before .before .before .before .args in
     Entering (a .allowance) (a .flow) (a .entered) (a .x) (a .allowance - 1) (c .before .union .result) (c .behind .result)
@@ -122,7 +122,8 @@ enter-lost-requires-2 t c κs = search needs
 
 enter-returns-2 : (t : ℕ) → enter-lts.Need-returns-2 (enter-claims t) (enter-at t) enter.Post
 enter-returns-2 t c =
-    enter-seen _ _ _ _ _ _ _ _ _ _ _ (entering t (c .before .before .before .before)) (c .before .before .before .if2 .taken) _ (c .before .before .member .ensures) (c .before .if3 .taken) _ (c .lost2 .ensures)
+    enter-seen _ _ _ _ _ _ _ _ _ _ _ (entering t (c .before .before .before .before)) (c .before .before .before .if2 .taken)
+    _ (c .before .before .member .ensures) (c .before .if3 .taken) _ (c .lost2 .ensures)
 
 enter-sub-fewer : (t : ℕ) → enter-lts.Need-sub-fewer (enter-claims t) (enter-at t) enter.Post
 enter-sub-fewer t c = search needs
@@ -135,7 +136,9 @@ enter-stepped-in-requires t c κs = search needs
 
 enter-returns-3 : (t : ℕ) → enter-lts.Need-returns-3 (enter-claims t) (enter-at t) enter.Post
 enter-returns-3 t c =
-    enter-goes _ _ _ _ _ _ _ _ _ _ _ (entering t (c .before .before .before .before .before)) (c .before .before .before .before .if2 .taken) _ (c .before .before .before .member .ensures) (c .before .before .if3 .left) _ (c .before .leave .ensures) _ (c .stepped-in .ensures)
+    enter-goes _ _ _ _ _ _ _ _ _ _ _ (entering t (c .before .before .before .before .before)) (c .before .before .before .before .if2 .taken)
+    _ (c .before .before .before .member .ensures) (c .before .before .if3 .left)
+    _ (c .before .leave .ensures) _ (c .stepped-in .ensures)
 
 enter-lost-requires-3 : (t : ℕ) → enter-lts.Need-lost-requires-3 (enter-claims t) (enter-at t) enter.Post
 enter-lost-requires-3 t c κs = search needs
@@ -150,7 +153,7 @@ leave-Inv-loop allowance rows inner last flow entered left x seen fewer choices 
 abbrev leave-μ-loop : leave-lts.MeasureT-loop
 leave-μ-loop allowance rows inner last flow entered left x seen fewer choices tried₀ y₀ tried y = 8 - y
 
--- after the test for the receiver
+-- where the test for the receiver is made
 leaving : (t : ℕ) (c : leave-lts.After-member (leave-claims t) (leave-at t) leave.Post leave-Inv-loop leave-μ-loop) →
     let a = c .before .before .before .before .before .args in
     Leaving (a .allowance) (a .last) (a .flow) (a .left) (a .x) (a .allowance - 1) (c .before .before .union .result) (c .member .result)
@@ -196,7 +199,8 @@ leave-lost-requires-2 : (t : ℕ) → leave-lts.Need-lost-requires-2 (leave-clai
 leave-lost-requires-2 t c κs = search needs
 
 leave-loop-holds : (t : ℕ) → leave-lts.Need-loop-holds (leave-claims t) (leave-at t) leave.Post leave-Inv-loop leave-μ-loop
-leave-loop-holds t c = leave-tries _ _ _ _ _ _ _ _ _ _ _ (leaving t (c .before .before .before)) (c .before .before .if2 .left) _ (c .before .ahead .ensures) _ (c .lost2 .ensures)
+leave-loop-holds t c =
+    leave-tries _ _ _ _ _ _ _ _ _ _ _ (leaving t (c .before .before .before)) (c .before .before .if2 .left) _ (c .before .ahead .ensures) _ (c .lost2 .ensures)
 
 leave-minus-requires-2 : (t : ℕ) → leave-lts.Need-minus-requires-2 (leave-claims t) (leave-at t) leave.Post leave-Inv-loop leave-μ-loop
 leave-minus-requires-2 t c κs = search needs
@@ -208,11 +212,13 @@ leave-enter-requires : (t : ℕ) → leave-lts.Need-enter-requires (leave-claims
 leave-enter-requires t c κs = search needs
 
 leave-stepped-out-requires : (t : ℕ) → leave-lts.Need-stepped-out-requires (leave-claims t) (leave-at t) leave.Post leave-Inv-loop leave-μ-loop
-leave-stepped-out-requires t c κs = c .before .before .before .before .before .before .before .before .before .before .before .before .before .before .pre .1
+leave-stepped-out-requires t c κs = search needs
 
 leave-returns-3 : (t : ℕ) → leave-lts.Need-returns-3 (leave-claims t) (leave-at t) leave.Post leave-Inv-loop leave-μ-loop
 leave-returns-3 t c =
-    trying-found _ _ _ _ _ _ (c .before .before .before .before .before .before .before .loop .inv) (c .before .before .before .before .before .before .loop-test .taken) _ (c .before .before .before .before .before .minus2 .ensures) _ (c .before .before .before .before .member2 .ensures) (c .before .before .before .if3 .taken) _ (c .before .before .enter .ensures) _ (c .before .stepped-out .ensures) (c .if4 .taken)
+    trying-found _ _ _ _ _ _ (c .before .before .before .before .before .before .before .loop .inv) (c .before .before .before .before .before .before .loop-test .taken)
+    _ (c .before .before .before .before .before .minus2 .ensures) _ (c .before .before .before .before .member2 .ensures) (c .before .before .before .if3 .taken)
+    _ (c .before .before .enter .ensures) _ (c .before .stepped-out .ensures) (c .if4 .taken)
 
 leave-add-y : (t : ℕ) → leave-lts.Need-add-y (leave-claims t) (leave-at t) leave.Post leave-Inv-loop leave-μ-loop
 leave-add-y t c = search needs
@@ -222,7 +228,9 @@ leave-loop-less t c = search needs
 
 leave-loop-again : (t : ℕ) → leave-lts.Need-loop-again (leave-claims t) (leave-at t) leave.Post leave-Inv-loop leave-μ-loop
 leave-loop-again t c =
-    trying-fails _ _ _ _ _ _ (c .before .before .before .before .before .before .before .loop .inv) (c .before .before .before .before .before .before .loop-test .taken) _ (c .before .before .before .before .before .minus2 .ensures) _ (c .before .before .before .before .member2 .ensures) (c .before .before .before .if3 .taken) _ (c .before .before .enter .ensures) _ (c .before .stepped-out .ensures) (c .if4 .left)
+    trying-fails _ _ _ _ _ _ (c .before .before .before .before .before .before .before .loop .inv) (c .before .before .before .before .before .before .loop-test .taken)
+    _ (c .before .before .before .before .before .minus2 .ensures) _ (c .before .before .before .before .member2 .ensures) (c .before .before .before .if3 .taken)
+    _ (c .before .before .enter .ensures) _ (c .before .stepped-out .ensures) (c .if4 .left)
 
 leave-add-y-2 : (t : ℕ) → leave-lts.Need-add-y-2 (leave-claims t) (leave-at t) leave.Post leave-Inv-loop leave-μ-loop
 leave-add-y-2 t c = search needs

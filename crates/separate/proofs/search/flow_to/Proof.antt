@@ -37,7 +37,8 @@ unsought-requires : tie.Need-unsought-requires Inv-loop μ-loop
 unsought-requires c κs = search needs
 
 loop-holds : tie.Need-loop-holds Inv-loop μ-loop
-loop-holds c = adding-starts _ _ _ _ _ _ _ _ _ (c .before .before .before .before .single .ensures) (c .before .before .before .minus .ensures) (c .before .before .linked-to .ensures) (c .before .meet .ensures) _ (c .unsought .ensures)
+loop-holds c =
+    adding-starts _ _ _ _ _ _ _ _ _ (c .before .before .before .before .single .ensures) (c .before .before .before .minus .ensures) (c .before .before .linked-to .ensures) (c .before .meet .ensures) _ (c .unsought .ensures)
 
 seek-requires : tie.Need-seek-requires Inv-loop μ-loop
 seek-requires c κs = search needs

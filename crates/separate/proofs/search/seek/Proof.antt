@@ -40,7 +40,9 @@ started-requires c κs = search needs
 
 returns : tie.Need-returns Inv-loop μ-loop
 returns c =
-    trying-found _ _ _ _ _ _ (c .before .before .before .before .before .before .before .loop .inv) (c .before .before .before .before .before .before .loop-test .taken) _ (c .before .before .before .before .before .minus .ensures) _ (c .before .before .before .before .member .ensures) (c .before .before .before .if1 .taken) _ (c .before .before .enter .ensures) _ (c .before .started .ensures) (c .if2 .taken)
+    trying-found _ _ _ _ _ _ (c .before .before .before .before .before .before .before .loop .inv) (c .before .before .before .before .before .before .loop-test .taken)
+    _ (c .before .before .before .before .before .minus .ensures) _ (c .before .before .before .before .member .ensures) (c .before .before .before .if1 .taken)
+    _ (c .before .before .enter .ensures) _ (c .before .started .ensures) (c .if2 .taken)
 
 add-x : tie.Need-add-x Inv-loop μ-loop
 add-x c = search needs
@@ -50,7 +52,9 @@ loop-less c = search needs
 
 loop-again : tie.Need-loop-again Inv-loop μ-loop
 loop-again c =
-    trying-fails _ _ _ _ _ _ (c .before .before .before .before .before .before .before .loop .inv) (c .before .before .before .before .before .before .loop-test .taken) _ (c .before .before .before .before .before .minus .ensures) _ (c .before .before .before .before .member .ensures) (c .before .before .before .if1 .taken) _ (c .before .before .enter .ensures) _ (c .before .started .ensures) (c .if2 .left)
+    trying-fails _ _ _ _ _ _ (c .before .before .before .before .before .before .before .loop .inv) (c .before .before .before .before .before .before .loop-test .taken)
+    _ (c .before .before .before .before .before .minus .ensures) _ (c .before .before .before .before .member .ensures) (c .before .before .before .if1 .taken)
+    _ (c .before .before .enter .ensures) _ (c .before .started .ensures) (c .if2 .left)
 
 add-x-2 : tie.Need-add-x-2 Inv-loop μ-loop
 add-x-2 c = search needs

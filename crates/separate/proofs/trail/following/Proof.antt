@@ -1,6 +1,5 @@
 -- `separate::trail::following` meets its contract. Past the eighth server the row is empty, and 8 is the lowest of none. Assumes nothing.
-use native.Mathlib.Omega.{arith}
-use Rattle.separate.proofs.Laying.{none-follows}
+use Rattle.separate.proofs.Beyond.{follows-beyond}
 use borrow.Author.Needs.{needs}
 use Rattle.separate.proofs.trail.following.Statement.{statement}
 use Rattle.separate.proofs.trail.following.Tie as tie
@@ -18,7 +17,7 @@ returns : tie.Need-returns
 returns c = search needs
 
 returns-2 : tie.Need-returns-2
-returns-2 c = none-follows (c .before .args .t1 .out) _ (search needs) (c .if1 .left)
+returns-2 c = follows-beyond (c .before .args .t1 .out) _ (search needs) (c .if1 .left)
 
 pub following-spec : {M : Type 1} → statement M
 following-spec = tie.close (tie.spec element-copy-out-lowest lowest-requires returns returns-2)

@@ -1,11 +1,11 @@
--- `separate::sides::ahead` meets its contract: what its callees ensure, one put into the other. Assumes nothing.
+-- `separate::search::ahead` meets its contract: what its callees ensure, one put into the other. Assumes nothing.
 use mathlib.Core.Path.{refl}
 use Rattle.flow.specs.Search.{ahead}
 use borrow.Author.Needs.{needs}
-use Rattle.separate.proofs.sides.ahead.Statement.{statement}
-use Rattle.separate.proofs.sides.ahead.Tie as tie
-use Rattle.separate.proofs.sides.ahead.Reads as reads
-use Rattle.separate.proofs.sides.ahead.Lts as lts
+use Rattle.separate.proofs.search.ahead.Statement.{statement}
+use Rattle.separate.proofs.search.ahead.Tie as tie
+use Rattle.separate.proofs.search.ahead.Reads as reads
+use Rattle.separate.proofs.search.ahead.Lts as lts
 use Rattle.sets.proofs.meet.Reads as meet-reads
 use Rattle.sets.proofs.minus.Reads as minus-reads
 use Rattle.sets.proofs.single.Reads as single-reads
