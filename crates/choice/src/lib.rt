@@ -116,18 +116,3 @@ pub fn quorum(table: &[bool; 256], sound: u8, side: u8) -> u8
     }
     left
 }
-
-// The `count` lowest servers of those near.
-pub fn reporters(near: u8, count: u8) -> u8
-    ensures { λ r. ⌜ r ≡ lowestOf count near ⌝ }
-{
-    let mut chosen: u8 = 0;
-    let mut left = near;
-    for k in 0..count {
-        let first = sets::lowest(left);
-        let alone = sets::single(first);
-        chosen = sets::union(chosen, alone);
-        left = sets::minus(left, alone);
-    }
-    chosen
-}

@@ -3,16 +3,17 @@
 --     Adding           what the routes still to be sought give is what the whole gives
 --     adding-..        its start; a route more; a search that finds none; and its end
 -- Assumes nothing.
-use mathlib.Core.Path.{_≡_, refl}
+use mathlib.Core.Path.{_≡_, refl, ap}
 use mathlib.Core.Bool.{true, false, cond}
 use mathlib.Core.List.{List}
 use Prim.Native.Nat.{ℕ, suc, _+_, _-_, _≤_, _<_}
 use native.Mathlib.Numerals.{add-one}
 use native.Mathlib.Omega.{arith}
-use Rattle.sets.specs.Sets.{single, meet, minus}
+use Rattle.sets.specs.Sets.{single, meet, minus, size}
 use Rattle.flow.specs.declared.Flow.{Flow}
 use Rattle.flow.specs.declared.Sought.{Sought}
-use Rattle.flow.specs.Search.{noFlow, withStart, lost, reached, changed, tries, enter, sides, seek, seekAll, linkedTo, flowTo}
+use Rattle.flow.specs.Search.{straight, lowestOf, withStart, lost, reached, changed, tries, enter, sides, seek, seekAll, lastIn, flowBy}
+use Rattle.flow.proofs.Lowest.{lowestOf-few}
 use Rattle.separate.proofs.Trying.{Trying, trying-starts}
 
 -- the sources
@@ -32,11 +33,17 @@ pub record Adding (rows : List ℕ) (inner last sources count k : ℕ) (s whole 
   pub inside : k ≤ count
   pub rest : seekAll rows inner last sources (count - k) s ≡ whole
 
-pub adding-starts : (rows : List ℕ) (W sources r count : ℕ) (i inner last starts : ℕ) → i ≡ single r → inner ≡ minus W i → last ≡ linkedTo rows W r
-    → starts ≡ meet sources inner → (s : Sought) → s ≡ reached noFlow 0 0 → Adding rows inner last starts count 0 s (flowTo rows W sources r count)
-unfolding flowTo
-adding-starts rows W sources r count i inner last starts ei en el es s g =
-    record { inside = omega arith; rest = let z : count - 0 ≡ count = omega arith in cc }
+-- no more are laid than are asked for
+pub laid-few : (count both first laid : ℕ) → first ≡ lowestOf count both → laid ≡ size first → laid ≤ count
+laid-few count both first laid e z = let l = lowestOf-few count both in let w = ap size e in omega arith
+
+-- straight routes first
+pub adding-starts : (rows : List ℕ) (near W sources r count : ℕ) (i inner last starts both first laid : ℕ) → i ≡ single r → inner ≡ minus W i → last ≡ lastIn near W r
+    → starts ≡ meet sources inner → both ≡ meet starts last → first ≡ lowestOf count both → laid ≡ size first
+    → (s : Sought) → s ≡ reached (straight first) 0 0 → Adding rows inner last starts count laid s (flowBy rows near W sources r count)
+unfolding flowBy
+adding-starts rows near W sources r count i inner last starts both first laid ei en el es eb ef ez s g =
+    record { inside = laid-few count both first laid ef ez; rest = cc }
 
 module _ (rows : List ℕ) (inner last sources count k : ℕ) (s whole : Sought) (so : Adding rows inner last sources count k s whole) where
   pub adding-done : count ≤ k → s ≡ whole

@@ -2,7 +2,7 @@
 use flow::Flow;
 use flow::Sought;
 ghost use mathlib.Core.Path.{_≡_};
-ghost use Rattle.flow.specs.Search.{noFlow, withStart, withEnd, withUse, withoutUse, withStep, withoutStep, stepIn, stepOut, lost, reached, changed};
+ghost use Rattle.flow.specs.Search.{straight, withStart, withEnd, withUse, withoutUse, withStep, withoutStep, stepIn, stepOut, lost, reached, changed};
 
 // A route starts at x.
 fn with_start(mut flow: Flow, x: u8) -> Flow
@@ -105,19 +105,19 @@ pub fn ended(flow: Flow, entered: u8, left: u8, x: u8) -> Sought
     }
 }
 
-// The flow before the first route is sought.
-pub fn unsought() -> Sought
-    ensures { λ r. ⌜ r ≡ reached noFlow 0 0 ⌝ }
+// A route straight to the receiver from each of these servers: the flow before a route is sought.
+pub fn straight(servers: u8) -> Sought
+    ensures { λ r. ⌜ r ≡ reached (straight servers) 0 0 ⌝ }
 {
-    let none = Flow {
-        used: 0,
-        start: 0,
-        ends: 0,
+    let flow = Flow {
+        used: servers,
+        start: servers,
+        ends: servers,
         out: [0u8; 8],
     };
     Sought {
         found: true,
-        flow: none,
+        flow: flow,
         entered: 0,
         left: 0,
     }

@@ -3,12 +3,13 @@
 // down the search as it is, and is changed on the way back from the receiver only: so a try that
 // finds nothing leaves nothing to undo.
 use crate::changes;
+use crate::lowest;
 use crate::sides;
 use flow::Flow;
 use flow::Sought;
 ghost use mathlib.Core.Path.{_≡_};
 ghost use Prim.Native.Nat.{_<_};
-ghost use Rattle.flow.specs.Search.{ahead, enter, leave, seek, flowTo};
+ghost use Rattle.flow.specs.Search.{ahead, enter, leave, seek, flowBy};
 
 // The allowance of a search: there are sixteen sides, and none is tried twice.
 const SIDES: u8 = 17;
@@ -121,16 +122,19 @@ fn seek(rows: &[u8; 8], inner: u8, last: u8, sources: u8, flow: Flow) -> Sought
     tried
 }
 
-// `count` routes in `within` from the sources to the receiver, one sought after the other; or the
-// search that did not find one more.
-pub fn flow_to(rows: &[u8; 8], within: u8, sources: u8, receiver: u8, count: u8) -> Sought
-    ensures { λ r. ⌜ r ≡ flowTo (now (rows .entry)) within sources receiver count ⌝ }
+// `count` routes in `within` from the sources to the receiver, where `near` are the servers with a link
+// to it: straight from the lowest sources that are near, then one sought after the other; or the search
+// that did not find one more.
+pub fn flow_to(rows: &[u8; 8], near: u8, within: u8, sources: u8, receiver: u8, count: u8) -> Sought
+    ensures { λ r. ⌜ r ≡ flowBy (now (rows .entry)) near within sources receiver count ⌝ }
 {
     let inner = sets::minus(within, sets::single(receiver));
-    let last = sides::linked_to(rows, within, receiver);
+    let last = sides::last_in(near, within, receiver);
     let starts = sets::meet(sources, inner);
-    let mut sought = changes::unsought();
-    for k in 0..count {
+    let first = lowest::lowest_of(sets::meet(starts, last), count);
+    let laid = sets::size(first);
+    let mut sought = changes::straight(first);
+    for k in laid..count {
         let flow = sought.flow;
         let next = seek(rows, inner, last, starts, flow);
         if next.found {

@@ -1,23 +1,23 @@
--- `choice::reporters` meets its contract. The invariant of its loop, `Taking`: those taken, with the lowest of what is left, are the lowest of the whole.
+-- `separate::lowest::lowest_of` meets its contract. The invariant of its loop, `Taking`: those taken, with the lowest of what is left, are the lowest of the whole.
 -- The measure is how many are left to take. Assumes nothing.
 use Prim.Native.Nat.{_-_}
 use native.Mathlib.Omega.{arith}
 use borrow.Author.Needs.{needs}
-use Rattle.choice.proofs.Nearest.{Taking, taking-starts, taking-turn, taking-ends}
-use Rattle.choice.proofs.reporters.Statement.{statement}
-use Rattle.choice.proofs.reporters.Tie as tie
-use Rattle.choice.proofs.reporters.Reads as reads
-use Rattle.choice.proofs.reporters.Lts as lts
+use Rattle.separate.proofs.Taking.{Taking, taking-starts, taking-turn, taking-ends}
+use Rattle.separate.proofs.lowest.lowest_of.Statement.{statement}
+use Rattle.separate.proofs.lowest.lowest_of.Tie as tie
+use Rattle.separate.proofs.lowest.lowest_of.Reads as reads
+use Rattle.separate.proofs.lowest.lowest_of.Lts as lts
 use Rattle.sets.proofs.lowest.Reads as lowest-reads
 use Rattle.sets.proofs.minus.Reads as minus-reads
 use Rattle.sets.proofs.single.Reads as single-reads
 use Rattle.sets.proofs.union.Reads as union-reads
 
 abbrev Inv-loop : tie.InvT-loop
-Inv-loop near count chosen₀ left₀ k₀ chosen left k = Taking near count k chosen left
+Inv-loop set count chosen₀ left₀ k₀ chosen left k = Taking set count k chosen left
 
 abbrev μ-loop : tie.MeasureT-loop
-μ-loop near count chosen₀ left₀ k₀ chosen left k = count - k
+μ-loop set count chosen₀ left₀ k₀ chosen left k = count - k
 
 loop-holds : tie.Need-loop-holds Inv-loop μ-loop
 loop-holds c = taking-starts _ _
@@ -46,8 +46,8 @@ loop-again c = taking-turn _ _ _ _ _ (c .before .before .before .before .before 
 returns : tie.Need-returns Inv-loop μ-loop
 returns c = taking-ends _ _ _ _ _ (c .before .loop .inv) (omega arith)
 
-pub reporters-spec : {M : Type 1} → statement M
-reporters-spec =
+pub lowest-of-spec : {M : Type 1} → statement M
+lowest-of-spec =
     tie.close
     (tie.spec
     Inv-loop
