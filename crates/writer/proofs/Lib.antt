@@ -1,0 +1,6 @@
+-- Copies    bytes laid where earlier ones stand already
+-- Repeats   a block whose body stands in the buffer already
+-- Cutting   the blocks of one F, one after the other
+pub mod Copies
+pub mod Repeats
+pub mod Cutting

@@ -1,0 +1,7 @@
+// The plan writer: for every card without a bad split, a plan that the plan check accepts and than which
+// none is shorter, written into lent memory.
+mod again;
+mod cuts;
+mod parts;
+mod stub;
+pub mod write;

@@ -1,0 +1,2 @@
+// stub
+pub fn nothing() -> u8 { 0 }
