@@ -1,6 +1,8 @@
 -- Copies    bytes laid where earlier ones stand already
 -- Repeats   a block whose body stands in the buffer already
 -- Cutting   the blocks of one F, one after the other
+-- Faulting  the blocks of each F, one F after the other
 pub mod Copies
 pub mod Repeats
 pub mod Cutting
+pub mod Faulting

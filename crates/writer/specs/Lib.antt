@@ -3,3 +3,4 @@
 pub mod Site
 pub mod Bytes
 pub mod WeakTable
+pub mod Answers
