@@ -1,4 +1,7 @@
+-- `writer::write::write_good` meets its contract: the plan has as many bytes as `plan_length` says, so the blocks and the end are the plan. Assumes nothing.
+use mathlib.Core.Path.{refl}
 use borrow.Author.Needs.{needs}
+use Rattle.writer.proofs.Answered.{short-written, blocks-room, end-room, room-written}
 use Rattle.writer.proofs.write.write_good.Statement.{statement}
 use Rattle.writer.proofs.write.write_good.Tie as tie
 use Rattle.writer.proofs.write.write_good.Reads as reads
@@ -6,29 +9,23 @@ use Rattle.writer.proofs.write.write_good.Lts as lts
 use Rattle.writer.proofs.stub.plan_length.Reads as plan-length-reads
 use Rattle.writer.proofs.write.put_blocks.Reads as put-blocks-reads
 
--- src/write.rt:64:9
 plan-length-requires : tie.Need-plan-length-requires
 plan-length-requires c κs = search needs
 
--- src/write.rt:66:9
 returns : tie.Need-returns
-returns c = ?
+returns c = (short-written _ _ _ (c .before .before .before .pre .0) (c .before .before .before .pre .1) _ _ (c .before .plan-length .ensures (c .before .before .before .pre .0 .most) (c .before .before .before .pre .0 .bound)) (c .if1 .taken), refl)
 
--- src/write.rt:68:9
 put-blocks-requires : tie.Need-put-blocks-requires
-put-blocks-requires c κs = ?
+put-blocks-requires c κs = (c .before .before .before .before .pre .0, c .before .before .before .before .pre .1, blocks-room _ _ _ (c .before .before .before .before .pre .0) (c .before .before .before .before .pre .1) (c .before .before .before .before .args .lent .now) _ (c .before .before .plan-length .ensures (c .before .before .before .before .pre .0 .most) (c .before .before .before .before .pre .0 .bound)) (c .before .if1 .left))
 
--- src/write.rt:69:5
 slice-write-lent : tie.Need-slice-write-lent
-slice-write-lent c = ?
+slice-write-lent c = end-room _ _ _ (c .before .before .before .before .before .before .before .pre .0) (c .before .before .before .before .before .before .before .pre .1) _ _ (c .before .before .before .before .before .plan-length .ensures (c .before .before .before .before .before .before .before .pre .0 .most) (c .before .before .before .before .before .before .before .pre .0 .bound)) (c .before .before .before .before .if1 .left) _ _ (c .before .before .put-blocks .ensures .0) (c .before .before .put-blocks .ensures .1)
 
--- src/write.rt:60:1
 same-length : tie.Need-same-length
 same-length c = search needs
 
--- src/write.rt:60:1
 returns-2 : tie.Need-returns-2
-returns-2 c = ?
+returns-2 c = room-written _ _ _ (c .before .before .before .before .before .before .before .pre .0) (c .before .before .before .before .before .before .before .pre .1) _ _ (c .before .before .before .before .before .plan-length .ensures (c .before .before .before .before .before .before .before .pre .0 .most) (c .before .before .before .before .before .before .before .pre .0 .bound)) (c .before .before .before .before .if1 .left) _ _ (c .before .before .put-blocks .ensures .0) (c .before .before .put-blocks .ensures .1)
 
 pub write-good-spec : {M : Type 1} → statement M
 write-good-spec =

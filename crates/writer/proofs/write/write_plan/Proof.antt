@@ -1,4 +1,10 @@
+-- `writer::write::write_plan` meets its contract: the split test's refusal and its bad split are handed on; where it says "none" the card is read, and its
+-- network has no bad split. Assumes nothing.
+use mathlib.Core.Path.{sym, ap, _∙_}
 use borrow.Author.Needs.{needs}
+use Rattle.network.specs.Answers.{readingOf, splitAnswerOf}
+use Rattle.network.proofs.Heads.{network-is, head-proper, network-split}
+use Rattle.writer.proofs.Answered.{refused-wrote, bad-wrote, good-wrote, good-unread}
 use Rattle.writer.proofs.write.write_plan.Statement.{statement}
 use Rattle.writer.proofs.write.write_plan.Tie as tie
 use Rattle.writer.proofs.write.write_plan.Reads as reads
@@ -7,57 +13,44 @@ use Rattle.network.proofs.card.read_card.Reads as read-card-reads
 use Rattle.network.proofs.split.split_test.Reads as split-test-reads
 use Rattle.writer.proofs.write.write_good.Reads as write-good-reads
 
--- src/write.rt:78:9
 split-test-requires : tie.Need-split-test-requires
 split-test-requires c κs = search needs
 
--- src/write.rt:80:30
 enum-known-answer : tie.Need-enum-known-answer
 enum-known-answer c = search needs
 
--- src/write.rt:81:28
 enum-known-answer-2 : tie.Need-enum-known-answer-2
 enum-known-answer-2 c = search needs
 
--- src/write.rt:83:30
 enum-told : tie.Need-enum-told
 enum-told c = search needs
 
--- src/write.rt:84:17
 read-card-requires : tie.Need-read-card-requires
 read-card-requires c κs = search needs
 
--- src/write.rt:86:34
 enum-known-reading : tie.Need-enum-known-reading
 enum-known-reading c = search needs
 
--- src/write.rt:87:36
 enum-known-reading-2 : tie.Need-enum-known-reading-2
 enum-known-reading-2 c = search needs
 
--- src/write.rt:87:46
 write-good-requires : tie.Need-write-good-requires
-write-good-requires c κs = ?
+write-good-requires c κs = (head-proper _ _ _ _ _ (sym (c .before .before .before .before .read-card .ensures .reading) ∙ ap readingOf (c .before .before .reading2 .given .1)) (c .before .before .before .before .read-card .ensures .links), network-split _ _ _ _ _ (sym (c .before .before .before .before .read-card .ensures .reading) ∙ ap readingOf (c .before .before .reading2 .given .1)) (c .before .before .before .before .read-card .ensures .links) ∙ sym (sym (ap splitAnswerOf (c .before .before .before .before .before .before .enum-told .given .1)) ∙ c .before .before .before .before .before .before .before .before .split-test .ensures))
 
--- src/write.rt:75:1
 returns : tie.Need-returns
-returns c = ?
+returns c = refused-wrote _ _ _ (sym (ap splitAnswerOf (c .before .answer .given .1)) ∙ c .before .before .before .split-test .ensures)
 
--- src/write.rt:75:1
 returns-2 : tie.Need-returns-2
-returns-2 c = ?
+returns-2 c = bad-wrote _ _ _ _ _ _ (sym (ap splitAnswerOf (c .before .answer2 .given .1)) ∙ c .before .before .before .split-test .ensures)
 
--- src/write.rt:75:1
 returns-3 : tie.Need-returns-3
-returns-3 c = ?
+returns-3 c = good-unread _ _ (sym (ap splitAnswerOf (c .before .before .before .before .before .enum-told .given .1)) ∙ c .before .before .before .before .before .before .before .split-test .ensures) _ (sym (c .before .before .before .read-card .ensures .reading) ∙ ap readingOf (c .before .reading .given .1))
 
--- src/write.rt:75:1
 same-length : tie.Need-same-length
 same-length c = search needs
 
--- src/write.rt:75:1
 returns-4 : tie.Need-returns-4
-returns-4 c = ?
+returns-4 c = good-wrote _ _ _ _ _ (network-is _ _ _ _ _ (sym (c .before .before .before .before .before .before .before .read-card .ensures .reading) ∙ ap readingOf (c .before .before .before .before .before .reading2 .given .1)) (c .before .before .before .before .before .before .before .read-card .ensures .links)) (sym (ap splitAnswerOf (c .before .before .before .before .before .before .before .before .before .enum-told .given .1)) ∙ c .before .before .before .before .before .before .before .before .before .before .before .split-test .ensures) _ _ (c .before .before .write-good .ensures .0) (c .before .before .write-good .ensures .1)
 
 pub write-plan-spec : {M : Type 1} → statement M
 write-plan-spec =
