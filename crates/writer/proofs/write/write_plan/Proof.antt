@@ -1,6 +1,7 @@
 -- `writer::write::write_plan` meets its contract: the split test's refusal and its bad split are handed on; where it says "none" the card is read, and its
 -- network has no bad split. Assumes nothing.
 use mathlib.Core.Path.{sym, ap, _∙_}
+use mathlib.Core.List.{[]}
 use borrow.Author.Needs.{needs}
 use Rattle.network.specs.Answers.{readingOf, splitAnswerOf}
 use Rattle.network.proofs.Heads.{network-is, head-proper, network-split}
@@ -44,7 +45,7 @@ returns-2 : tie.Need-returns-2
 returns-2 c = bad-wrote _ _ _ _ _ _ (sym (ap splitAnswerOf (c .before .answer2 .given .1)) ∙ c .before .before .before .split-test .ensures)
 
 returns-3 : tie.Need-returns-3
-returns-3 c = good-unread _ _ (sym (ap splitAnswerOf (c .before .before .before .before .before .enum-told .given .1)) ∙ c .before .before .before .before .before .before .before .split-test .ensures) _ (sym (c .before .before .before .read-card .ensures .reading) ∙ ap readingOf (c .before .reading .given .1))
+returns-3 c = good-unread _ [] (sym (ap splitAnswerOf (c .before .before .before .before .before .enum-told .given .1)) ∙ c .before .before .before .before .before .before .before .split-test .ensures) _ (sym (c .before .before .before .read-card .ensures .reading) ∙ ap readingOf (c .before .reading .given .1))
 
 same-length : tie.Need-same-length
 same-length c = search needs
