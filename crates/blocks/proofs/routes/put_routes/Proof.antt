@@ -1,4 +1,5 @@
--- HEAD
+-- `blocks::routes::put_routes` meets its contract. The invariant of its loop: the routes that start before x are put (`Going`). The measure is how many
+-- servers are left. Assumes nothing.
 use Prim.Native.Nat.{_-_}
 use native.Mathlib.Omega.{arith}
 use Rattle.blocks.proofs.Putting.{Going, put-long, going-starts, going-on, going-past, going-ends}
@@ -37,7 +38,9 @@ loop-less : tie.Need-loop-less Inv-loop μ-loop
 loop-less c = search needs
 
 loop-again : tie.Need-loop-again Inv-loop μ-loop
-loop-again c = ?
+loop-again c =
+    let t = c .before .before .before .before .before in
+    going-on (t .before .before .before .loop .inv) (omega arith) (t .before .member .ensures) (t .if1 .taken) (route-is _ _ _ _ _ (c .before .before .before .before .operand .ensures)) (c .before .before .put-route .ensures)
 
 add-x-2 : tie.Need-add-x-2 Inv-loop μ-loop
 add-x-2 c = search needs
@@ -52,7 +55,7 @@ same-length : tie.Need-same-length Inv-loop μ-loop
 same-length c = put-long (c .before .loop .inv .before)
 
 returns : tie.Need-returns Inv-loop μ-loop
-returns c = going-ends (c .before .loop .inv) (omega arith) ? 72 (omega arith)
+returns c = going-ends (c .before .loop .inv) (omega arith) (routes-text _ _ _) 72 (omega arith)
 
 pub put-routes-spec : {M : Type 1} → statement M
 put-routes-spec =
