@@ -3,6 +3,7 @@
 --     route-is, ..                                         what the code puts for a server is its text
 --     routes-text, ..                                      the texts of all, one after the other, are the whole
 --     report-put                                           the three bytes of one report
+--     head-put                                             the four bytes of a block's head
 --     block-put                                            the parts of a block, one after the other, are the block
 -- Assumes nothing.
 use mathlib.Core.Path.{_≡_, refl, sym, ap, _∙_}
@@ -149,15 +150,19 @@ report-put W near count receiver e g p q s = put-join (put-join p q) (rw (g, e) 
 
 -- a block
 
-pub block-put : (rows nears : List ℕ) (W count F A S : ℕ) {x u v w y mesh fans z : List ℕ} {a b c d o t r : ℕ}
-    → Put 0 (16 ∷ []) 1 x u a → Put a (F ∷ []) 1 u v b → Put b (A ∷ []) 1 v w c → Put c (S ∷ []) 1 w y d
-    → Put d (encodeRoutes 18 (meshBy rows nears W (pairsOf (members S) (members S)))) 4608 y mesh o
+pub head-put : {x u v w z : List ℕ} {a b c r : ℕ} (F A S : ℕ) → Put 0 (16 ∷ []) 1 x u a → Put a (F ∷ []) 1 u v b → Put b (A ∷ []) 1 v w c → Put c (S ∷ []) 1 w z r
+    → Put 0 (16 ∷ F ∷ A ∷ S ∷ []) 4 x z r
+head-put F A S p q k l = put-join (put-join (put-join p q) k) l
+
+pub block-put : (rows nears : List ℕ) (W count F A S : ℕ) {x head mesh fans z : List ℕ} {a o t r : ℕ}
+    → Put 0 (16 ∷ F ∷ A ∷ S ∷ []) 4 x head a
+    → Put a (encodeRoutes 18 (meshBy rows nears W (pairsOf (members S) (members S)))) 4608 head mesh o
     → Put o (encodeRoutes 19 (fansBy rows nears W S count (members (minus W S)))) 576 mesh fans t
     → Put t (encodeReports (map (reportBy nears W count) (members F))) 24 fans z r
     → BlockPut (blockBy rows nears W count F A S) x z r
 unfolding blockBy encodeBlock encodeRoutes
-block-put rows nears W count F A S {x} {u} {v} {w} {y} {mesh} {fans} {z} {a} {b} {c} {d} {o} {t} {r} p q k l m f g =
-    let whole = put-join (put-join (put-join p q) k) (put-join (put-join (put-join l m) f) g) in
+block-put rows nears W count F A S p m f g =
+    let whole = put-join (put-join (put-join p m) f) g in
     let n = whole .place in
-    let j = whole .bound in
+    let b = whole .bound in
     record { bytes = whole .bytes; long = n ∙ zero-add (length (encodeBlock (blockBy rows nears W count F A S))); few = omega arith }

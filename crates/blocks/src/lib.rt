@@ -21,11 +21,8 @@ pub fn put_block(
 ) -> usize
     ensures { λ r. ⌜ BlockPut (blockBy (now (rows .entry)) (now (sources .entry)) sound count fault side quorum) (now (part .entry)) (now (part .exit)) r ⌝ }
 {
-    let a = bytes::put_byte(&mut *part, 0, 16);
-    let b = bytes::put_byte(&mut *part, a, fault);
-    let c = bytes::put_byte(&mut *part, b, side);
-    let d = bytes::put_byte(&mut *part, c, quorum);
-    let outward = routes::put_mesh(&mut *part, d, rows, sources, sound, quorum);
+    let among = bytes::put_head(&mut *part, fault, side, quorum);
+    let outward = routes::put_mesh(&mut *part, among, rows, sources, sound, quorum);
     let told = routes::put_fans(&mut *part, outward, rows, sources, count, sound, quorum);
     reports::put_reports(&mut *part, told, sources, count, sound, fault)
 }

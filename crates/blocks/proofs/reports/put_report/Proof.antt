@@ -1,5 +1,4 @@
 -- `blocks::reports::put_report` meets its contract: three bytes, one after the other. Assumes nothing.
-use Rattle.blocks.proofs.Putting.{put-long}
 use Rattle.blocks.proofs.Texts.{report-put}
 use borrow.Author.Needs.{needs}
 use Rattle.blocks.proofs.reports.put_report.Statement.{statement}
