@@ -2,23 +2,21 @@
 --     near-linking   an entry of the rows of sources is who links to that server, by the rows of links
 --     block-by       the block by rows is the block of the plan
 -- Assumes nothing.
-use mathlib.Core.Path.{_≡_, refl, sym, ap, ap₂, _∙_}
-use mathlib.Core.Bool.{Bool, true, false, cond}
-use mathlib.Core.List.{List, [], _∷_, _++_, map, List·Memᴰ, List·Memᴰ·head, List·Memᴰ·tail}
-use Prim.Native.Nat.{ℕ, zero, suc, _+_, _≤_, _<_}
-use native.Mathlib.Omega.{arith}
+use mathlib.Core.Path.{_≡_, refl, ap, ap₂, _∙_}
+use mathlib.Core.List.{List, [], _∷_, _++_, map, List·Memᴰ·head, List·Memᴰ·tail}
+use Prim.Native.Nat.{ℕ, _+_, _<_}
 use lib.Dec.{eqb}
 use lib.ListN.{getD}
 use Rattle.facts.specs.Lists.{Each}
 use Rattle.facts.proofs.Bools.{by-cond}
-use Rattle.sets.specs.Sets.{Set, has, single, meet, minus, full, encode}
+use Rattle.sets.specs.Sets.{has, single, meet, minus, full, encode}
 use Rattle.sets.proofs.Members.{encode-has, encode-small, same-members}
 use Rattle.network.specs.Links.{Links, linkedIn}
 use Rattle.network.specs.Rows.{rowsOf}
 use Rattle.network.specs.Sources.{sourcesTo, SourceRows}
 use Rattle.network.proofs.LinkRows.{rows-at, row-has}
 use Rattle.plan.specs.Members.{members}
-use Rattle.rules.specs.Blocks.{Route, Report, Block}
+use Rattle.rules.specs.Blocks.{Route, Report}
 use Rattle.rules.specs.Rules.{sourcesFor, pairsOf}
 use Rattle.rules.proofs.Lists.{members-in}
 use Rattle.rules.proofs.Groups.{each-cons, each-append}
@@ -83,7 +81,7 @@ module _ (links : Links) (nears : List ℕ) (so : SourceRows links nears) where
   members-below : (s : ℕ) → Each (λ (r : ℕ). r < 8) (members s)
   members-below s r m = members-in s r m .1
 
-  pub block-by : (n f F A S : ℕ) → blockBy rows nears (minus (full n) F) (f + 1) F A S ≡ blockWith n f links F A S
+  pub block-by : (n f F A S : ℕ) → blockBy (rowsOf (linkedIn links)) nears (minus (full n) F) (f + 1) F A S ≡ blockWith n f links F A S
   unfolding blockBy blockWith
   block-by n f F A S =
       let W = minus (full n) F in

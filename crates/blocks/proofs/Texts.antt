@@ -7,19 +7,18 @@
 --     block-put                                            the parts of a block, one after the other, are the block
 -- Assumes nothing.
 use mathlib.Core.Path.{_≡_, refl, sym, ap, _∙_}
-use mathlib.Core.Bool.{Bool, true, false, cond, not, _&&_}
-use mathlib.Core.List.{List, [], _∷_, _++_, map, append-nil, append-assoc}
-use Prim.Native.Nat.{ℕ, zero, suc, _+_, _*_, _≤_, _<_}
+use mathlib.Core.List.{List, [], _∷_, _++_, map, append-assoc}
+use Prim.Native.Nat.{ℕ, zero, suc, _<_}
 use native.Mathlib.Nat.{zero-add}
 use native.Mathlib.Omega.{arith}
-use lib.Dec.{eqb, ltb}
+use lib.Dec.{eqb}
 use lib.ListN.{length, getD}
 use borrow.Author.Tests.{lt-ltb, eq-eqb, eqb-true}
 use Rattle.facts.proofs.Bools.{cases, same}
 use Rattle.sets.specs.Sets.{has, single, meet, minus}
 use Rattle.sets.proofs.Members.{has-minus, has-single}
 use Rattle.plan.specs.Members.{listFrom, members}
-use Rattle.rules.specs.Blocks.{operand, Route, Report, encodeRoutes, encodeReports, encodeBlock}
+use Rattle.rules.specs.Blocks.{operand, Route, encodeRoutes, encodeReports, encodeBlock}
 use Rattle.rules.specs.Rules.{sourcesFor, pairsOf}
 use Rattle.rules.proofs.Groups.{encode-append}
 use Rattle.flow.specs.declared.Flow.{Flow}

@@ -6,7 +6,6 @@ use native.Mathlib.Omega.{arith}
 use Rattle.blocks.specs.Written.{Put}
 use Rattle.blocks.proofs.Putting.{Laying, put-join, put-long, laying-starts, laying-goes, laying-ends}
 use borrow.Author.Needs.{needs}
-use borrow.Author.Tests.{lt-ltb, le-ltb, le-leb, lt-leb, eq-eqb, ne-eqb}
 use Rattle.blocks.proofs.bytes.put_route.Statement.{statement}
 use Rattle.blocks.proofs.bytes.put_route.Tie as tie
 use Rattle.blocks.proofs.bytes.put_route.Reads as reads

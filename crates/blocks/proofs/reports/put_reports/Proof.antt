@@ -5,7 +5,6 @@ use native.Mathlib.Omega.{arith}
 use Rattle.blocks.proofs.Putting.{Going, put-long, going-starts, going-on, going-past, going-ends}
 use Rattle.blocks.proofs.Texts.{reportText, report-is, reports-text}
 use borrow.Author.Needs.{needs}
-use borrow.Author.Tests.{lt-ltb, le-ltb, le-leb, lt-leb, eq-eqb, ne-eqb}
 use Rattle.blocks.proofs.reports.put_reports.Statement.{statement}
 use Rattle.blocks.proofs.reports.put_reports.Tie as tie
 use Rattle.blocks.proofs.reports.put_reports.Reads as reads
