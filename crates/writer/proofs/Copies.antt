@@ -1,17 +1,17 @@
 -- Bytes that are laid over a buffer where earlier ones stand already.
 --     laid-front       a byte before the place is as it was; laid-kept so many of them
---     laid-held        what is laid stands there
+--     laid-held        what is laid stands there; part-laid the same through a part that was lent on
 --     opening-laid     four bytes stored one after the other
 --     Copying          bytes of a place before laid again; copying-.. the loop
 -- Assumes nothing.
 use mathlib.Core.Path.{_≡_, refl, sym, ap, _∙_}
-use mathlib.Core.List.{List, [], _∷_, _++_}
+use mathlib.Core.List.{List, [], _∷_, _++_, append-nil}
 use Prim.Native.Nat.{ℕ, zero, suc, _+_, _-_, _≤_, _<_}
 use native.Mathlib.Omega.{arith}
 use native.Mathlib.Nat.{add-suc}
 use native.Mathlib.Numerals.{add-one, add-two, add-three}
-use lib.ListN.{length, getD, set, take, drop, length-set, length-take, length-drop}
-use lib.Seq.{take-suc, length-take-le, getD-drop, getD-set-other, take-append-seam, drop-append-seam, drop-set-add, take-set-le}
+use lib.ListN.{length, getD, set, take, drop, length-set, length-take, length-drop, take-append-drop, drop-of-length-le}
+use lib.Seq.{take-suc, length-take-le, getD-drop, getD-set-other, take-append-seam, drop-append-seam, drop-set-add, take-set-le, take-all}
 use Rattle.facts.specs.Laid.{laid}
 use Rattle.facts.proofs.Stores.{laid-append, length-laid, laid-whole}
 
@@ -47,6 +47,17 @@ laid-held at text l h =
     ap (λ (j : ℕ). take (length text) (drop at (laid j text l))) (sym e)
     ∙ ap (take (length text)) (drop-laid at 0 text l ∙ laid-whole text (drop at l) (omega arith))
     ∙ take-append-seam text (drop (length text) (drop at l))
+
+-- a part from a place on to the end, with the text laid at its front, put back
+pub part-laid : (at : ℕ) (old last text : List ℕ) → at ≤ length old → last ≡ laid 0 text (take (length old - at) (drop at old))
+    → take at old ++ (last ++ drop (length old - at) (drop at old)) ≡ laid at text old
+part-laid at old last text h e =
+    let l = length-drop at old in
+    let z : at + 0 ≡ at = omega arith in
+    let a : last ≡ drop at (laid at text old) = e ∙ ap (laid 0 text) (take-all (length old - at) (drop at old) (omega arith)) ∙ sym (drop-laid at 0 text old) ∙ ap (λ (j : ℕ). drop at (laid j text old)) z in
+    let b : drop (length old - at) (drop at old) ≡ [] = drop-of-length-le (drop at old) {i = length old - at} (omega arith) in
+    let c : take at (laid at text old) ≡ take at old = laid-kept at text old 0 at (omega arith) in
+    rw (a, b, append-nil (drop at (laid at text old)), sym c) (take-append-drop at (laid at text old))
 
 pub opening-laid : (at a b c d : ℕ) (l : List ℕ) → set (set (set (set l at a) (at + 1) b) (at + 2) c) (at + 3) d ≡ laid at (a ∷ b ∷ c ∷ d ∷ []) l
 unfolding laid

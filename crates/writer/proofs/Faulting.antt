@@ -23,7 +23,7 @@ use Rattle.plan.proofs.Cuts.{few}
 use Rattle.rules.specs.Blocks.{Block, encodeBlock, encodeBlocks}
 use Rattle.rules.proofs.Fans.{map-join}
 use Rattle.planner.specs.Plan.{blockOf, planOf}
-use Rattle.writer.specs.WeakTable.{WeakTable}
+use Rattle.choice.specs.WeakTable.{WeakTable}
 use Rattle.writer.specs.Site.{Site, Ready}
 use Rattle.writer.specs.Bytes.{cutsBytes}
 

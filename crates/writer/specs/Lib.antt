@@ -2,5 +2,4 @@
 -- Bytes     the bytes of the blocks of one F, and what of them stands in a buffer
 pub mod Site
 pub mod Bytes
-pub mod WeakTable
 pub mod Answers

@@ -11,7 +11,7 @@ use Rattle.network.specs.Rows.{rowsOf}
 use Rattle.network.specs.Sources.{SourceRows}
 use Rattle.network.specs.Proper.{Proper}
 use Rattle.network.specs.Split.{good, firstBad}
-use Rattle.writer.specs.WeakTable.{WeakTable}
+use Rattle.choice.specs.WeakTable.{WeakTable}
 
 pub record Site (n f : ℕ) (links : Links) (rows nears : List ℕ) : Type 0 where
   pub proper : Proper n f links

@@ -1,7 +1,6 @@
 // The blocks of one F.
 use crate::again;
 use crate::parts;
-use crate::stub;
 ghost use mathlib.Core.Path.{_≡_};
 ghost use mathlib.Core.Logic.{_⊎_};
 ghost use Prim.Native.Nat.{ℕ, _+_, _-_, _≤_};
@@ -13,6 +12,33 @@ ghost use Rattle.rules.specs.Blocks.{encodeBlock};
 ghost use Rattle.planner.specs.Plan.{blockWith};
 ghost use Rattle.writer.specs.Site.{Site, Ready};
 ghost use Rattle.writer.specs.Bytes.{bodyBytes, cutsBytes, Again};
+
+// A block written anew; how many bytes it has.
+fn put_new(
+    lent: &mut [u8],
+    at: usize,
+    rows: &[u8; 8],
+    sources: &[u8; 8],
+    count: u8,
+    sound: u8,
+    fault: u8,
+    side: u8,
+    quorum: u8,
+) -> usize
+    requires { ⌜ at ≤ length (now lent) ⌝ }
+    ensures { λ r. ⌜ ((n f : ℕ) (links : Links) → Site n f links (now (rows .entry)) (now (sources .entry)) → sound ≡ minus (full n) fault → count ≡ f + 1 → (now (lent .exit) ≡ laid at (encodeBlock (blockWith n f links fault side quorum)) (now (lent .entry))) × (r ≡ length (encodeBlock (blockWith n f links fault side quorum)))) × (r ≤ 16384) × (length (now (lent .exit)) ≡ length (now (lent .entry))) ⌝ }
+{
+    blocks::put_block(
+        &mut lent[at..],
+        rows,
+        sources,
+        count,
+        sound,
+        fault,
+        side,
+        quorum,
+    )
+}
 
 // A block: written anew, or, where an earlier one of this F has its S, its body copied from there; how
 // many bytes it has.
@@ -33,7 +59,7 @@ fn put_one(
     ensures { λ r. ⌜ ((n f : ℕ) (links : Links) → Site n f links (now (rows .entry)) (now (sources .entry)) → sound ≡ minus (full n) fault → count ≡ f + 1 → Again (bodyBytes n f links fault quorum) from each at (now (lent .entry)) → (now (lent .exit) ≡ laid at (encodeBlock (blockWith n f links fault side quorum)) (now (lent .entry))) × (r ≡ length (encodeBlock (blockWith n f links fault side quorum)))) × (r ≤ 16384 + each) × (length (now (lent .exit)) ≡ length (now (lent .entry))) ⌝ }
 {
     if from == 0 {
-        return stub::put_new(
+        return put_new(
             &mut *lent,
             at,
             rows,
@@ -77,7 +103,7 @@ pub fn put_cuts(
     while p < limit {
         let part = p as u8;
         if parts::is_part(sound, part) {
-            let chosen = stub::choose(table, sound, part);
+            let chosen = choice::choose(table, sound, part);
             let side = chosen.side;
             let quorum = chosen.quorum;
             let key = quorum as usize;

@@ -3,5 +3,4 @@
 mod again;
 mod cuts;
 mod parts;
-mod stub;
 pub mod write;

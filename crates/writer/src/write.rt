@@ -1,6 +1,5 @@
 // The whole plan, written into lent memory.
 use crate::cuts;
-use crate::stub;
 use network::card;
 use network::card::Reading;
 use network::links;
@@ -46,7 +45,7 @@ fn put_blocks(lent: &mut [u8], n: u8, f: u8, links: [[bool; 8]; 8]) -> usize
     while i < limit {
         let fault = i as u8;
         if sizes[fault as usize] <= f {
-            let table = stub::weak_table(&sizes, &lower, &upper, servers, f, fault);
+            let table = choice::weak_table(&sizes, &lower, &upper, servers, f, fault);
             at = cuts::put_cuts(&mut *lent, at, n, f, &rows, &nears, &table, fault);
             i = i + 1;
         } else {
@@ -61,7 +60,7 @@ fn write_good(n: u8, f: u8, links: [[bool; 8]; 8], lent: &mut [u8]) -> Written
     requires { ⌜ Proper n f links × (firstBad n f links ≡ good) ⌝ }
     ensures { λ r. ⌜ (writtenOf r ≡ fitting (planBytes n f links) (now (lent .entry))) × (now (lent .exit) ≡ afterWrite (writtenOf r) (planBytes n f links) (now (lent .entry))) ⌝ }
 {
-    let bytes = stub::plan_length(n, f);
+    let bytes = lengths::plan_length(n, f);
     if lent.len() < bytes {
         return Written::Refused(Refusal::Call(CallGround::PlanBuffer));
     }

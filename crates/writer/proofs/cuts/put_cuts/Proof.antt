@@ -20,7 +20,7 @@ use Rattle.sets.proofs.full.Reads as full-reads
 use Rattle.sets.proofs.minus.Reads as minus-reads
 use Rattle.writer.proofs.cuts.put_one.Reads as put-one-reads
 use Rattle.writer.proofs.parts.is_part.Reads as is-part-reads
-use Rattle.writer.proofs.stub.choose.Reads as choose-reads
+use Rattle.choice.proofs.choose.Reads as choose-reads
 
 abbrev Inv-loop : tie.InvT-loop
 Inv-loop lent₀ start n f rows sources table fault servers sound limit count places₀ each₀ at₀ p₀ lent places each at p =
@@ -66,24 +66,24 @@ array-read-from : tie.Need-array-read-from Inv-loop μ-loop
 array-read-from c = search needs
 
 put-one-requires : tie.Need-put-one-requires Inv-loop μ-loop
-put-one-requires c κs = 
+put-one-requires c κs =
     let pre = c .before .before .before .before .before .before .before .before .before .pre in
     let w = (full-few _ _ (c .before .before .before .before .before .before .before .before .before .pre .1 .site .proper .most) (c .before .before .before .before .before .before .before .full .ensures)) in
     let s = (sound-is _ _ _ _ (c .before .before .before .before .before .before .before .before .before .pre .1 .site .proper .most) (c .before .before .before .before .before .before .before .full .ensures) (c .before .before .before .before .before .before .minus .ensures)) in
     let i = c .before .before .before .before .before .loop .inv (pre .0) (pre .1) (pre .2) in
     let e = sym (ap (λ (x : ℕ). isPart x (c .before .before .before .before .before .loop .p)) s) ∙ sym (c .before .before .before .is-part .ensures) ∙ c .before .before .if1 .taken in
     let d = c .before .choose .ensures _ _ (pre .0) _ s (pre .1 .weaks) in
-    cutting-ready _ _ (pre .0) _ _ _ _ _ _ _ _ _ i (pre .1) (w .1) (c .before .before .before .before .loop-test .taken) e _ _ _ (d .0) (d .1) refl
+    cutting-ready _ _ (pre .0) _ _ _ _ _ _ _ _ _ i (pre .1) (w .1) (c .before .before .before .before .loop-test .taken) e _ _ _ (d .side) (d .quorum) refl
 
 add-body : tie.Need-add-body Inv-loop μ-loop
-add-body c = 
+add-body c =
     let pre = c .before .before .before .before .before .before .before .before .before .before .before .before .pre in
     let w = (full-few _ _ (c .before .before .before .before .before .before .before .before .before .before .before .before .pre .1 .site .proper .most) (c .before .before .before .before .before .before .before .before .before .before .full .ensures)) in
     let s = (sound-is _ _ _ _ (c .before .before .before .before .before .before .before .before .before .before .before .before .pre .1 .site .proper .most) (c .before .before .before .before .before .before .before .before .before .before .full .ensures) (c .before .before .before .before .before .before .before .before .before .minus .ensures)) in
     let i = c .before .before .before .before .before .before .before .before .loop .inv (pre .0) (pre .1) (pre .2) in
     let e = sym (ap (λ (x : ℕ). isPart x (c .before .before .before .before .before .before .before .before .loop .p)) s) ∙ sym (c .before .before .before .before .before .before .is-part .ensures) ∙ c .before .before .before .before .before .if1 .taken in
     let d = c .before .before .before .before .choose .ensures _ _ (pre .0) _ s (pre .1 .weaks) in
-    let l = cutting-sums _ _ (pre .0) _ _ _ _ _ _ _ _ _ i (pre .1) (w .1) (c .before .before .before .before .before .before .before .loop-test .taken) e _ _ _ (d .0) (d .1) refl in
+    let l = cutting-sums _ _ (pre .0) _ _ _ _ _ _ _ _ _ i (pre .1) (w .1) (c .before .before .before .before .before .before .before .loop-test .taken) e _ _ _ (d .side) (d .quorum) refl in
     search needs
 
 mul-places : tie.Need-mul-places Inv-loop μ-loop
@@ -93,7 +93,7 @@ array-write-places : tie.Need-array-write-places Inv-loop μ-loop
 array-write-places c = search needs
 
 add-at : tie.Need-add-at Inv-loop μ-loop
-add-at c = 
+add-at c =
     let pre = c .before .before .before .before .before .before .before .before .before .before .before .before .pre in
     let w = (full-few _ _ (c .before .before .before .before .before .before .before .before .before .before .before .before .pre .1 .site .proper .most) (c .before .before .before .before .before .before .before .before .before .before .full .ensures)) in
     let s = (sound-is _ _ _ _ (c .before .before .before .before .before .before .before .before .before .before .before .before .pre .1 .site .proper .most) (c .before .before .before .before .before .before .before .before .before .before .full .ensures) (c .before .before .before .before .before .before .before .before .before .minus .ensures)) in
@@ -101,8 +101,8 @@ add-at c =
     let e = sym (ap (λ (x : ℕ). isPart x (c .before .before .before .before .before .before .before .before .loop .p)) s) ∙ sym (c .before .before .before .before .before .before .is-part .ensures) ∙ c .before .before .before .before .before .if1 .taken in
     let d = c .before .before .before .before .choose .ensures _ _ (pre .0) _ s (pre .1 .weaks) in
     let h = c .before .before .before .before .before .before .before .loop-test .taken in
-    let o = c .before .before .put-one .ensures .0 _ _ (pre .0) (pre .1 .site) s refl (cutting-again _ _ (pre .0) _ _ _ _ _ _ _ _ _ i (pre .1) (w .1) h e _ _ _ (d .0) (d .1) refl) in
-    let l = cutting-fits _ _ (pre .0) _ _ _ _ _ _ _ _ _ i (pre .1) (w .1) h e _ _ _ (d .0) (d .1) refl _ (o .1) in
+    let o = c .before .before .put-one .ensures .0 _ _ (pre .0) (pre .1 .site) s refl (cutting-again _ _ (pre .0) _ _ _ _ _ _ _ _ _ i (pre .1) (w .1) h e _ _ _ (d .side) (d .quorum) refl) in
+    let l = cutting-fits _ _ (pre .0) _ _ _ _ _ _ _ _ _ i (pre .1) (w .1) h e _ _ _ (d .side) (d .quorum) refl _ (o .1) in
     search needs
 
 add-p : tie.Need-add-p Inv-loop μ-loop
@@ -119,8 +119,8 @@ loop-again c = λ links r room.
     let e = sym (ap (λ (x : ℕ). isPart x (c .before .before .before .before .before .before .before .before .loop .p)) s) ∙ sym (c .before .before .before .before .before .before .is-part .ensures) ∙ c .before .before .before .before .before .if1 .taken in
     let d = c .before .before .before .before .choose .ensures _ _ links _ s (r .weaks) in
     let h = c .before .before .before .before .before .before .before .loop-test .taken in
-    let o = c .before .before .put-one .ensures .0 _ _ links (r .site) s refl (cutting-again _ _ links _ _ _ _ _ _ _ _ _ i r (w .1) h e _ _ _ (d .0) (d .1) refl) in
-    cutting-turn _ _ links _ _ _ _ _ _ _ _ _ i r (w .1) h e _ _ _ (d .0) (d .1) refl _ _ (o .0) (o .1) (search needs)
+    let o = c .before .before .put-one .ensures .0 _ _ links (r .site) s refl (cutting-again _ _ links _ _ _ _ _ _ _ _ _ i r (w .1) h e _ _ _ (d .side) (d .quorum) refl) in
+    cutting-turn _ _ links _ _ _ _ _ _ _ _ _ i r (w .1) h e _ _ _ (d .side) (d .quorum) refl _ _ (o .0) (o .1) (search needs)
 
 add-p-2 : tie.Need-add-p-2 Inv-loop μ-loop
 add-p-2 c = let w = (full-few _ _ (c .before .before .before .before .before .before .before .pre .1 .site .proper .most) (c .before .before .before .before .before .full .ensures)) in omega arith

@@ -12,7 +12,7 @@ use Rattle.writer.proofs.cuts.put_one.Reads as reads
 use Rattle.writer.proofs.cuts.put_one.Lts as lts
 use Rattle.writer.proofs.again.put_again.Reads as put-again-reads
 use Rattle.writer.proofs.again.put_opening.Reads as put-opening-reads
-use Rattle.writer.proofs.stub.put_new.Reads as put-new-reads
+use Rattle.writer.proofs.cuts.put_new.Reads as put-new-reads
 
 put-new-requires : tie.Need-put-new-requires
 put-new-requires c κs = search needs

@@ -22,7 +22,7 @@ use Rattle.network.proofs.sources.upper_table.Reads as upper-table-reads
 use Rattle.sets.proofs.full.Reads as full-reads
 use Rattle.sets.proofs.sizes.Reads as sizes-reads
 use Rattle.writer.proofs.cuts.put_cuts.Reads as put-cuts-reads
-use Rattle.writer.proofs.stub.weak_table.Reads as weak-table-reads
+use Rattle.choice.proofs.weak_table.Reads as weak-table-reads
 
 abbrev Inv-loop : tie.InvT-loop
 Inv-loop lent₀ n f rows nears lower upper sizes servers limit at₀ i₀ lent at i =
@@ -71,7 +71,7 @@ weak-table-requires : tie.Need-weak-table-requires Inv-loop μ-loop
 weak-table-requires c κs = search needs
 
 put-cuts-requires : tie.Need-put-cuts-requires Inv-loop μ-loop
-put-cuts-requires c κs = 
+put-cuts-requires c κs =
     let s : Site _ _ _ _ _ = (record { proper = c .before .before .before .before .before .before .before .before .before .before .before .before .before .before .before .before .before .before .pre .0; fine = c .before .before .before .before .before .before .before .before .before .before .before .before .before .before .before .before .before .before .pre .1; ahead = c .before .before .before .before .before .before .before .before .before .before .before .before .before .before .before .before .rows .ensures; back = c .before .before .before .before .before .before .before .before .before .before .before .before .before .before .before .source-rows .ensures }) in
     let h = c .before .before .before .before .before .before .before .before .before .loop-test .taken in
     let e = few-of _ _ _ (full-few _ _ (c .before .before .before .before .before .before .before .before .before .before .before .before .before .before .before .before .before .before .pre .0 .most) (c .before .before .before .before .before .before .before .before .before .before .before .full .ensures)) _ h _ (c .before .before .before .before .before .before .before .before .before .before .before .before .sizes .ensures) (c .before .before .before .before .before .before .before .before .if1 .taken) in
