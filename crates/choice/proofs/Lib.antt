@@ -1,6 +1,6 @@
 -- Smaller   a set that holds a weak set is weak, or still holds one when some server is left out of it
 -- Filled    the loop that fills the table
--- Chosen    the side and the quorum, as they are looked up; the loop that takes servers out
+-- Choosing  the side and the quorum, as they are looked up; the loop that takes servers out
 mod Smaller
 mod Filled
-mod Chosen
+mod Choosing

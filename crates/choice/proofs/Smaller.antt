@@ -20,10 +20,9 @@ use Rattle.network.specs.Split.{someBelow}
 use Rattle.network.specs.Weak.{weak}
 use Rattle.network.proofs.Neighbours.{some-at, some-of}
 use Rattle.condition.proofs.Partitions.{member-of}
+use Rattle.flow.proofs.Membership.{has-left, left-has, within-of, only-out, only-has}
 use Rattle.planner.specs.Choice.{holdsWeak}
 use Rattle.planner.proofs.WeakSets.{weak-some}
-use Rattle.planner.proofs.Hitting.{has-left, left-has, only-out, only-has}
-use Rattle.planner.proofs.Hitting.{within-of}
 
 -- what is taken out of a set and what is left are the whole
 minus-meet : (a b : ℕ) → minus a b + meet a b ≡ a

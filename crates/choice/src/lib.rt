@@ -1,4 +1,4 @@
-// The planner's choice for a block: which part of a cut is A, which servers of it are S, and who reports.
+// The planner's choice for a block: which part of a cut is A, and which servers of it are S.
 // For one F a table says which sets hold a weak set; the choices look it up.
 use network::split;
 ghost use mathlib.Core.Path.{_≡_};
@@ -9,9 +9,15 @@ ghost use Rattle.sets.specs.Sets.{full, minus};
 ghost use Rattle.network.specs.Links.{Links};
 ghost use Rattle.network.specs.Sources.{Tables};
 ghost use Rattle.network.specs.Weak.{outside};
-ghost use Rattle.planner.specs.Choice.{sideOf, without, quorumOf};
-ghost use Rattle.planner.specs.Plan.{lowestOf};
+ghost use Rattle.planner.specs.Choice.{meetsAll, without, quorumOf};
 ghost use Rattle.choice.specs.WeakTable.{lessAt, anyLess, WeakTable};
+ghost use Rattle.choice.specs.Choice.{Choice};
+
+// One part of a cut of V−F, and the servers left of it.
+pub struct Chosen {
+    pub side: u8,
+    pub quorum: u8,
+}
 
 // Server x is in the set, and without x the set still holds a weak set.
 fn less_at(table: &[bool; 256], set: u8, x: u8) -> bool
@@ -79,15 +85,15 @@ pub fn weak_table(
     table
 }
 
-// A: the part, if what it leaves of V−F holds no weak set, else what it leaves.
-pub fn side(table: &[bool; 256], sound: u8, part: u8) -> u8
-    ensures { λ r. ⌜ ((n f : ℕ) (links : Links) (F : ℕ) → sound ≡ minus (full n) F → WeakTable n f links F (now (table .entry)) → r ≡ sideOf n f links F part) ⌝ }
+// The set meets every weak set: what it leaves of V−F holds none.
+fn meets_all(table: &[bool; 256], sound: u8, set: u8) -> bool
+    ensures { λ r. ⌜ ((n f : ℕ) (links : Links) (F : ℕ) → sound ≡ minus (full n) F → WeakTable n f links F (now (table .entry)) → r ≡ meetsAll n f links F set) ⌝ }
 {
-    let rest = sets::minus(sound, part);
+    let rest = sets::minus(sound, set);
     if table[rest as usize] {
-        return rest;
+        return false;
     }
-    part
+    true
 }
 
 // The set without x, if x is in it and it meets every weak set without x.
@@ -97,22 +103,55 @@ fn without(table: &[bool; 256], sound: u8, set: u8, x: u8) -> u8
     if sets::member(set, x) {
         let alone = sets::single(x);
         let less = sets::minus(set, alone);
-        let missed = sets::minus(sound, less);
-        if table[missed as usize] {
-            return set;
+        if meets_all(table, sound, less) {
+            return less;
         }
-        return less;
+        return set;
     }
     set
 }
 
-// S: what is left of A when the servers that are not needed are taken out, one after the other.
-pub fn quorum(table: &[bool; 256], sound: u8, side: u8) -> u8
+// What is left of the side when the servers that are not needed are taken out, from the highest on.
+fn quorum(table: &[bool; 256], sound: u8, side: u8) -> u8
     ensures { λ r. ⌜ ((n f : ℕ) (links : Links) (F : ℕ) → sound ≡ minus (full n) F → WeakTable n f links F (now (table .entry)) → r ≡ quorumOf n f links F side) ⌝ }
 {
     let mut left = side;
-    for x in 0..8u8 {
+    for i in 0..8u8 {
+        let x = 7 - i;
         left = without(table, sound, left, x);
     }
     left
+}
+
+// A and S for a cut into this part and the rest of V−F. One of the two meets every weak set; if both
+// do, A is the one with the lower quorum.
+pub fn choose(table: &[bool; 256], sound: u8, part: u8) -> Chosen
+    ensures { λ r. ⌜ ((n f : ℕ) (links : Links) (F : ℕ) → sound ≡ minus (full n) F → WeakTable n f links F (now (table .entry)) → Choice n f links F part r) ⌝ }
+{
+    let rest = sets::minus(sound, part);
+    if meets_all(table, sound, part) {
+        let here = quorum(table, sound, part);
+        if meets_all(table, sound, rest) {
+            let there = quorum(table, sound, rest);
+            if here < there {
+                return Chosen {
+                    side: part,
+                    quorum: here,
+                };
+            }
+            return Chosen {
+                side: rest,
+                quorum: there,
+            };
+        }
+        return Chosen {
+            side: part,
+            quorum: here,
+        };
+    }
+    let there = quorum(table, sound, rest);
+    Chosen {
+        side: rest,
+        quorum: there,
+    }
 }

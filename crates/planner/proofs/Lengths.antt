@@ -173,7 +173,7 @@ module _ (n f : ℕ) (links : Links) (few : n ≤ 8) where
 -- the plan that is written
 
 module _ (n f : ℕ) (links : Links) (p : Proper n f links) (g : firstBad n f links ≡ good) where
-  block-exact : (d : DueBlock) → List·Memᴰ d (due n f) → length (encodeBlock (blockOf n f links d)) ≡ blockLength n f (d .faults)
+  pub block-exact : (d : DueBlock) → List·Memᴰ d (due n f) → length (encodeBlock (blockOf n f links d)) ≡ blockLength n f (d .faults)
   unfolding blockLength
   block-exact d m =
       let b = blockOf n f links d in

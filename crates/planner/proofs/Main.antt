@@ -61,7 +61,7 @@ good-read card g = go (readCard card) refl
     go (network n f links) e = (n, f, links, e)
     go (refused r) e = unread-good r (sym (ap splitOf e) ∙ g)
 
-plan-read : (card : List ℕ) (n f : ℕ) (links : Links) → readCard card ≡ network n f links → planFor card ≡ planBytes n f links
+pub plan-read : (card : List ℕ) (n f : ℕ) (links : Links) → readCard card ≡ network n f links → planFor card ≡ planBytes n f links
 unfolding planFor
 plan-read card n f links e = ap planOn e
 
@@ -135,7 +135,7 @@ record Wrote (card lent : List ℕ) (bytes : ℕ) : Type 0 where
   whole : bytes ≡ length (planFor card)
 
 -- the answer, by that of the split test
-write-on : (card lent : List ℕ) (w : Split) → splitTest card ≡ w → writeInto card lent ≡ writeOn w (planFor card) lent
+pub write-on : (card lent : List ℕ) (w : Split) → splitTest card ≡ w → writeInto card lent ≡ writeOn w (planFor card) lent
 unfolding writeInto
 write-on card lent w q = ap (λ (w : Split). writeOn w (planFor card) lent) q
 
@@ -151,6 +151,10 @@ wrote-fits card lent bytes e = go (splitTest card) refl
         (λ t. record { fine = q; room = ltb-false (length lent) (length (planFor card)) t; whole = sym (ap bytesOf (rw t at h)) })
     go (bad f l c r) q = let z : _≡_ {A = ℕ} 1 0 = ap sortOf (sym (write-on card lent (bad f l c r) q) ∙ e) in absurd (omega arith)
     go (unread r) q = let z : _≡_ {A = ℕ} 2 0 = ap sortOf (sym (write-on card lent (unread r) q) ∙ e) in absurd (omega arith)
+
+-- the number that is answered is the plan's length
+pub wrote-length : (card lent : List ℕ) (bytes : ℕ) → writeInto card lent ≡ wrote bytes → bytes ≡ length (planFor card)
+wrote-length card lent bytes e = wrote-fits card lent bytes e .whole
 
 pub accepts : Accepts
 unfolding writtenIn

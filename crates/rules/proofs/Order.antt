@@ -1,16 +1,16 @@
 -- Blocks in due order.
 --     part-back       a part of W is what is left of W without the other part
 --     cut-part        every cut of W into two parts that are not empty is known by the one that holds the lowest server of W
---     due-in          a due block has a small F of V, and one of the parts of a cut
+--     due-in          a due block has a small F of V, and one of the parts of a cut; in-due the other way
 --     due-together    the due blocks of one F stand together
 --     order-append    blocks in order are cut where the due ones are cut
 --     order-at        each due block has its block; order-of the other way
 --     order-together  blocks in order stand together by F, with every cut
 -- Assumes nothing.
-use mathlib.Core.Path.{_≡_, refl, sym, ap, _∙_}
+use mathlib.Core.Path.{_≡_, refl, sym, ap, subst, _∙_}
 use mathlib.Core.Logic.{_⊎_, inl, inr, ⊎-elim}
 use mathlib.Core.Bool.{true, false}
-use mathlib.Core.List.{List, [], _∷_, _++_, append-assoc, List·Memᴰ, List·Memᴰ·head, List·Memᴰ·tail, List·Memᴰ·cases-cons, List·Memᴰ·append-cases}
+use mathlib.Core.List.{List, [], _∷_, _++_, append-assoc, List·Memᴰ, List·Memᴰ·head, List·Memᴰ·tail, List·Memᴰ·cases-cons, List·Memᴰ·append-cases, Memᴰ·append-left, Memᴰ·append-right}
 use Prim.Native.Nat.{ℕ, suc, _-_, _^_, _≤_, _<_}
 use native.Mathlib.Omega.{arith}
 use lib.Bits.{bitAnd, and-comm, and-le-l}
@@ -169,6 +169,14 @@ due-together n f X h k =
       λ d m q. let r = listed-in (X - 0) 0 small (d .faults) (all-in n before d m) in omega arith,
       λ d m q. let r = listed-in (2 ^ n - (X - 0) - 1) (suc X) small (d .faults) (all-in n after d m) in omega arith,
     )
+
+-- a small F of V and a part of a cut of V−F have their block
+pub in-due : (n f F p : ℕ) → F < 2 ^ n → size F ≤ f → p < 2 ^ n → isPart (minus (full n) F) p ≡ true → List·Memᴰ (record { faults = F; part = p }) (due n f)
+in-due n f F p h k l e =
+    let (pre, post, w, o, q) = due-together n f F h k in
+    let own = blocksOf F (listFrom (2 ^ n) 0 (isPart (minus (full n) F))) in
+    let m = in-blocks F (listFrom (2 ^ n) 0 (isPart (minus (full n) F))) p (in-listed (2 ^ n) 0 (isPart (minus (full n) F)) p e (omega arith) (omega arith)) in
+    subst (λ (ds : List DueBlock). List·Memᴰ (record { faults = F; part = p }) ds) (sym w) (Memᴰ·append-left post (Memᴰ·append-right pre m))
 
 -- blocks in order
 

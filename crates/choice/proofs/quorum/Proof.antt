@@ -3,7 +3,7 @@
 use Prim.Native.Nat.{_-_}
 use native.Mathlib.Omega.{arith}
 use borrow.Author.Needs.{needs}
-use Rattle.choice.proofs.Chosen.{Thinning, thinning-starts, thinning-turn, thinning-ends}
+use Rattle.choice.proofs.Choosing.{Thinning, thinning-starts, thinning-turn, thinning-ends}
 use Rattle.choice.proofs.quorum.Statement.{statement}
 use Rattle.choice.proofs.quorum.Tie as tie
 use Rattle.choice.proofs.quorum.Reads as reads
@@ -11,19 +11,22 @@ use Rattle.choice.proofs.quorum.Lts as lts
 use Rattle.choice.proofs.without.Reads as without-reads
 
 abbrev Inv-loop : tie.InvT-loop
-Inv-loop table sound side left₀ x₀ left x = Thinning table sound side x left
+Inv-loop table sound side left₀ i₀ left i = Thinning table sound side i left
 
 abbrev μ-loop : tie.MeasureT-loop
-μ-loop table sound side left₀ x₀ left x = 8 - x
+μ-loop table sound side left₀ i₀ left i = 8 - i
 
 loop-holds : tie.Need-loop-holds Inv-loop μ-loop
 loop-holds c = thinning-starts _ _ _
 
+sub-x : tie.Need-sub-x Inv-loop μ-loop
+sub-x c = search needs
+
 without-requires : tie.Need-without-requires Inv-loop μ-loop
 without-requires c κs = search needs
 
-add-x : tie.Need-add-x Inv-loop μ-loop
-add-x c = search needs
+add-i : tie.Need-add-i Inv-loop μ-loop
+add-i c = search needs
 
 loop-less : tie.Need-loop-less Inv-loop μ-loop
 loop-less c = search needs
@@ -37,4 +40,4 @@ returns c = thinning-ends _ _ _ _ _ (c .before .loop .inv) (omega arith)
 pub quorum-spec : {M : Type 1} → statement M
 quorum-spec =
     tie.close
-    (tie.spec Inv-loop μ-loop loop-holds without-requires add-x loop-less loop-again returns)
+    (tie.spec Inv-loop μ-loop loop-holds sub-x without-requires add-i loop-less loop-again returns)

@@ -1,0 +1,2 @@
+-- Table   the table of lengths, computed
+mod Table
