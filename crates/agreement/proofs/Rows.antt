@@ -37,6 +37,8 @@ use Rattle.plan.specs.Check.{Totals, totals, checkPlan}
 use Rattle.plan.specs.Check as Check
 use Rattle.rules.specs.Theorems.{Accepted}
 use Rattle.rules.proofs.Main.{shows-good, shows-wide}
+use Rattle.writer.specs.declared.write.Written.{Written}
+use Rattle.writer.specs.Answers.{writtenOf, Wrote}
 use Rattle.load.specs.Load.{added}
 use Rattle.load.specs.Answers.{loadedOf}
 use Rattle.load.specs.Answers as Load
@@ -45,7 +47,7 @@ use Rattle.load.specs.declared.Loaded.{Loaded}
 use Rattle.run.specs.declared.call.Ran.{Ran}
 use Rattle.run.specs.Answers.{ranOf}
 use Rattle.run.specs.Answers as Run
-use Rattle.agreement.specs.Words.{refusedWords, cardWords, printWords, PrintWords, splitWords, quickWords, QuickWords, planWords, PlanWords, loadWords, LoadWords, RunWords}
+use Rattle.agreement.specs.Words.{refusedWords, cardWords, printWords, PrintWords, splitWords, quickWords, QuickWords, planWords, PlanWords, writeWords, WriteWords, loadWords, LoadWords, RunWords}
 
 module _ (r : Refused) (w m p : ℕ) (a : w ≡ whoseOf r) (b : m ≡ numberOf r) (c : p ≡ placeOf r) where
   pub split-refused : (s : Split) → s ≡ unread r → 2 ∷ w ∷ m ∷ p ∷ 0 ∷ [] ≡ splitWords s
@@ -73,6 +75,21 @@ module _ (s : List ℕ) (lent links : Links) (reading : Reading) (a : Answered s
 
 pub print-words : (card lent : List ℕ) (r : Printed) (after words : List ℕ) → Printing card lent r after → words ≡ printWords (printedOf r) → PrintWords card lent after words
 print-words card lent r after words a w = record { answer = w ∙ ap printWords (a .answer); bytes = a .bytes }
+
+-- the words of the plan writer, with what holds of the plan
+module _ (card lent : List ℕ) (r : Written) (after : List ℕ) (a : Wrote card lent r after) (words : List ℕ) where
+  pub write-words : words ≡ writeWords (writtenOf r) → WriteWords card lent after words
+  write-words w =
+      record {
+        answer = w ∙ ap writeWords (a .answer);
+        bytes = a .bytes;
+        accepted = λ bytes e. a .accepted bytes (a .answer ∙ e);
+        shortest = λ bytes e. a .shortest bytes (a .answer ∙ e);
+      }
+
+  pub write-refused : (g : Refusal) → r ≡ Written.Refused g → (w : List ℕ) → w ≡ refusedWords (refusalOf g)
+      → words ≡ getD w 0 0 ∷ getD w 1 0 ∷ getD w 2 0 ∷ getD w 3 0 ∷ 0 ∷ 0 ∷ 0 ∷ 0 ∷ [] → WriteWords card lent after words
+  write-refused g e w h q = write-words (q ∙ rw (h, e) refl)
 
 pub counts-laid : (counts : List ℕ) → length counts ≡ 8 → 0 ∷ entries 8 0 counts ≡ 0 ∷ counts
 counts-laid counts h = ap (λ (x : List ℕ). 0 ∷ x) (entries-are 8 0 counts h)

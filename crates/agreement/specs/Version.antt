@@ -5,4 +5,4 @@ abbrev pub versionOf : ℕ → ℕ → ℕ → ℕ
 versionOf major minor patch = 1000000 * major + 1000 * minor + patch
 
 abbrev pub version : ℕ
-version = versionOf 0 7 1
+version = versionOf 0 8 0

@@ -4,7 +4,7 @@ use mathlib.Core.Path.{_≡_}
 use mathlib.Core.Bool.{cond}
 use mathlib.Core.List.{List, [], _∷_, _++_}
 use Prim.Native.Nat.{ℕ, _+_, _*_, _≤_}
-use lib.ListN.{length, getD}
+use lib.ListN.{length, getD, take}
 use Rattle.refusal.specs.Refused.{Refused, whoseOf, numberOf, placeOf}
 use Rattle.network.specs.Card.{Network, network, refused, readCard}
 use Rattle.network.specs.Links.{Links, linkedIn}
@@ -15,6 +15,9 @@ use Rattle.two_way.specs.Quick.{Quick, ruled, quickTest}
 use Rattle.two_way.specs.Quick as Quick
 use Rattle.plan.specs.Check.{Totals, totals, checkPlan}
 use Rattle.plan.specs.Check as Check
+use Rattle.rules.specs.Theorems.{Accepted}
+use Rattle.planner.specs.Write.{Writing, broken, writeInto, writtenIn}
+use Rattle.planner.specs.Write as Write
 use Rattle.load.specs.Load.{added, Load, counted, loadCall}
 use Rattle.load.specs.Load as Load
 use Rattle.load.specs.Places.{placesIn}
@@ -66,6 +69,18 @@ pub record PlanWords (card plan words : List ℕ) : Type 0 where
   pub showsGood : (blocks carriages : ℕ) → words ≡ 0 ∷ blocks ∷ carriages ∷ 0 ∷ [] → splitTest card ≡ good
   pub showsWide : (blocks carriages : ℕ) → words ≡ 0 ∷ blocks ∷ carriages ∷ 0 ∷ []
       → (n f : ℕ) (links : Links) → readCard card ≡ network n f links → 3 * f + 1 ≤ n
+
+abbrev pub writeWords : Writing → List ℕ
+writeWords (Write.wrote bytes) = 0 ∷ bytes ∷ 0 ∷ 0 ∷ 0 ∷ 0 ∷ 0 ∷ 0 ∷ []
+writeWords (broken r f l c s) = refusedWords r ++ f ∷ l ∷ c ∷ s ∷ []
+writeWords (Write.unwritten r) = refusedWords r ++ 0 ∷ 0 ∷ 0 ∷ 0 ∷ []
+
+-- the words and the lent bytes after a plan is written; `accepted` and `shortest` are what holds of the plan
+pub record WriteWords (card lent after words : List ℕ) : Type 0 where
+  pub answer : words ≡ writeWords (writeInto card lent)
+  pub bytes : after ≡ writtenIn card lent
+  pub accepted : (bytes : ℕ) → writeInto card lent ≡ Write.wrote bytes → Accepted card (take bytes after)
+  pub shortest : (bytes : ℕ) → writeInto card lent ≡ Write.wrote bytes → (s : List ℕ) → Accepted card s → bytes ≤ length s
 
 abbrev pub loadWords : Load → List ℕ
 loadWords (counted counts) = 0 ∷ counts

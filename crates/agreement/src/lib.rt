@@ -17,6 +17,8 @@ use server::state::State;
 use server::turn;
 use server::turn::Outcome;
 use two_way::QuickAnswer;
+use writer::write;
+use writer::write::Written;
 ghost use mathlib.Core.Path.{_≡_};
 ghost use mathlib.Core.List.{_∷_, _++_};
 ghost use Rattle.refusal.specs.Refused.{refusalOf};
@@ -27,7 +29,7 @@ ghost use Rattle.network.specs.Split.{splitTest};
 ghost use Rattle.plan.specs.Check.{totals};
 ghost use Rattle.part.specs.Calls.{startCall, commitCall};
 ghost use Rattle.server.specs.Answers.{stateOf, verdictOf};
-ghost use Rattle.agreement.specs.Words.{refusedWords, cardWords, PrintWords, splitWords, QuickWords, planWords, PlanWords, LoadWords, RunWords, stateFrom, stateWords, steppedWords, AskWords};
+ghost use Rattle.agreement.specs.Words.{refusedWords, cardWords, PrintWords, splitWords, QuickWords, planWords, PlanWords, WriteWords, LoadWords, RunWords, stateFrom, stateWords, steppedWords, AskWords};
 ghost use Rattle.agreement.specs.Version.{version};
 
 // The version of this library: 1,000,000 * major + 1,000 * minor + patch.
@@ -35,7 +37,7 @@ ghost use Rattle.agreement.specs.Version.{version};
 pub extern "C" fn agreement_version() -> u64
     ensures { λ r. ⌜ r ≡ version ⌝ }
 {
-    7_001
+    8_000
 }
 
 // 2, what is at fault, the refusal's number, its place.
@@ -112,6 +114,28 @@ pub extern "C" fn agreement_print_card(card: &[u8], lent: &mut [u8], answer: &mu
         Printed::Refused(r) => {
             let words = refused_words(r);
             *answer = words;
+        }
+    }
+}
+
+// Writes a plan for the card. The answer is 0, the number of bytes, 0, 0, 0, 0, 0, 0, with the plan in
+// the first lent bytes and the later ones as they were; or 2, what is at fault, the refusal's number,
+// its place, and for 17 the first bad split F, L, C, R, else 0, 0, 0, 0, with every lent byte as it was.
+#[no_mangle]
+pub extern "C" fn agreement_write_plan(card: &[u8], lent: &mut [u8], answer: &mut [u64; 8])
+    ensures { λ r. ⌜ WriteWords (now (card .entry)) (now (lent .entry)) (now (lent .exit)) (now (answer .exit)) ⌝ }
+{
+    let written = write::write_plan(card, &mut *lent);
+    match written {
+        Written::Plan { bytes } => {
+            *answer = [0, bytes as u64, 0, 0, 0, 0, 0, 0];
+        }
+        Written::Split { f, l, c, r } => {
+            *answer = [2, 2, 17, 0, f as u64, l as u64, c as u64, r as u64];
+        }
+        Written::Refused(r) => {
+            let words = refused_words(r);
+            *answer = [words[0], words[1], words[2], words[3], 0, 0, 0, 0];
         }
     }
 }
