@@ -2,7 +2,7 @@
 use crate::bytes;
 use separate::lowest;
 ghost use mathlib.Core.List.{[], _∷_, map};
-ghost use Prim.Native.Nat.{_≤_, _<_};
+ghost use Prim.Native.Nat.{_≤_};
 ghost use Rattle.sets.specs.Sets.{meet};
 ghost use Rattle.flow.specs.Search.{lowestOf};
 ghost use Rattle.plan.specs.Members.{members};
