@@ -37,6 +37,10 @@ use Rattle.plan.specs.Check.{Totals, totals, checkPlan}
 use Rattle.plan.specs.Check as Check
 use Rattle.rules.specs.Theorems.{Accepted}
 use Rattle.rules.proofs.Main.{shows-good, shows-wide}
+use Rattle.sets.specs.Sets.{size}
+use Rattle.routes.specs.declared.Routed.{Routed}
+use Rattle.routes.specs.Answers.{routingOf}
+use Rattle.routes.specs.Answers as Routes
 use Rattle.writer.specs.declared.write.Written.{Written}
 use Rattle.writer.specs.Answers.{writtenOf, Wrote}
 use Rattle.load.specs.Load.{added}
@@ -47,7 +51,7 @@ use Rattle.load.specs.declared.Loaded.{Loaded}
 use Rattle.run.specs.declared.call.Ran.{Ran}
 use Rattle.run.specs.Answers.{ranOf}
 use Rattle.run.specs.Answers as Run
-use Rattle.agreement.specs.Words.{refusedWords, cardWords, printWords, PrintWords, splitWords, quickWords, QuickWords, planWords, PlanWords, writeWords, WriteWords, loadWords, LoadWords, RunWords}
+use Rattle.agreement.specs.Words.{refusedWords, cardWords, printWords, PrintWords, splitWords, quickWords, QuickWords, planWords, PlanWords, writeWords, WriteWords, routeWords, RouteWords, loadWords, LoadWords, RunWords}
 
 module _ (r : Refused) (w m p : ℕ) (a : w ≡ whoseOf r) (b : m ≡ numberOf r) (c : p ≡ placeOf r) where
   pub split-refused : (s : Split) → s ≡ unread r → 2 ∷ w ∷ m ∷ p ∷ 0 ∷ [] ≡ splitWords s
@@ -90,6 +94,20 @@ module _ (card lent : List ℕ) (r : Written) (after : List ℕ) (a : Wrote card
   pub write-refused : (g : Refusal) → r ≡ Written.Refused g → (w : List ℕ) → w ≡ refusedWords (refusalOf g)
       → words ≡ getD w 0 0 ∷ getD w 1 0 ∷ getD w 2 0 ∷ getD w 3 0 ∷ 0 ∷ 0 ∷ 0 ∷ 0 ∷ [] → WriteWords card lent after words
   write-refused g e w h q = write-words (q ∙ rw (h, e) refl)
+
+-- the words of separate routes, with what holds of them
+module _ (card : List ℕ) (F sources r : ℕ) (lent : List ℕ) (a : Routed) (after : List ℕ) (so : Routes.Answered card F sources r lent a after) (words : List ℕ) where
+  pub route-words : words ≡ routeWords (routingOf a) → RouteWords card F sources r lent after words
+  route-words w =
+      record {
+        answer = w ∙ ap routeWords (so .answer);
+        bytes = so .bytes;
+        found = λ n f links e count q. so .found n f links e count (so .answer ∙ q);
+        missed = λ n f links e K q. so .missed n f links e K (so .answer ∙ q);
+      }
+
+  pub route-cut : (servers : ℕ) → a ≡ Routed.Cut servers → (many : ℕ) → many ≡ size servers → words ≡ 0 ∷ 0 ∷ servers ∷ many ∷ [] → RouteWords card F sources r lent after words
+  route-cut servers e many m q = route-words (q ∙ rw (e, m) refl)
 
 pub counts-laid : (counts : List ℕ) → length counts ≡ 8 → 0 ∷ entries 8 0 counts ≡ 0 ∷ counts
 counts-laid counts h = ap (λ (x : List ℕ). 0 ∷ x) (entries-are 8 0 counts h)

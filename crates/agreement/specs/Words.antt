@@ -5,6 +5,7 @@ use mathlib.Core.Bool.{cond}
 use mathlib.Core.List.{List, [], _∷_, _++_}
 use Prim.Native.Nat.{ℕ, _+_, _*_, _≤_}
 use lib.ListN.{length, getD, take}
+use Rattle.sets.specs.Sets.{size}
 use Rattle.refusal.specs.Refused.{Refused, whoseOf, numberOf, placeOf}
 use Rattle.network.specs.Card.{Network, network, refused, readCard}
 use Rattle.network.specs.Links.{Links, linkedIn}
@@ -16,6 +17,9 @@ use Rattle.two_way.specs.Quick as Quick
 use Rattle.plan.specs.Check.{Totals, totals, checkPlan}
 use Rattle.plan.specs.Check as Check
 use Rattle.rules.specs.Theorems.{Accepted}
+use Rattle.rules.specs.Blocks.{Route}
+use Rattle.flow.specs.Theorems.{Found, CutOff}
+use Rattle.routes.specs.Routing.{Routing, routed, cutOff, unrouted, operands, routeInto, routedIn}
 use Rattle.planner.specs.Write.{Writing, broken, writeInto, writtenIn}
 use Rattle.planner.specs.Write as Write
 use Rattle.load.specs.Load.{added, Load, counted, loadCall}
@@ -81,6 +85,20 @@ pub record WriteWords (card lent after words : List ℕ) : Type 0 where
   pub bytes : after ≡ writtenIn card lent
   pub accepted : (bytes : ℕ) → writeInto card lent ≡ Write.wrote bytes → Accepted card (take bytes after)
   pub shortest : (bytes : ℕ) → writeInto card lent ≡ Write.wrote bytes → (s : List ℕ) → Accepted card s → bytes ≤ length s
+
+-- 1 and how many routes; or 0, the servers that cut every route off, and how many they are
+abbrev pub routeWords : Routing → List ℕ
+routeWords (routed count) = 0 ∷ 1 ∷ count ∷ 0 ∷ []
+routeWords (cutOff servers) = 0 ∷ 0 ∷ servers ∷ size servers ∷ []
+routeWords (unrouted r) = refusedWords r
+
+-- the words and the lent bytes after separate routes were sought; `found` and `missed` are what holds of the routes and of the cut
+pub record RouteWords (card : List ℕ) (F sources r : ℕ) (lent after words : List ℕ) : Type 0 where
+  pub answer : words ≡ routeWords (routeInto card F sources r lent)
+  pub bytes : after ≡ routedIn card F sources r lent
+  pub found : (n f : ℕ) (links : Links) → readCard card ≡ network n f links → (count : ℕ) → routeInto card F sources r lent ≡ routed count
+      → (count ≡ f + 1) × (ps : List Route) × Found n links F sources r (f + 1) ps × (take (8 * count) after ≡ operands ps)
+  pub missed : (n f : ℕ) (links : Links) → readCard card ≡ network n f links → (K : ℕ) → routeInto card F sources r lent ≡ cutOff K → CutOff n links F sources r (f + 1) K
 
 abbrev pub loadWords : Load → List ℕ
 loadWords (counted counts) = 0 ∷ counts

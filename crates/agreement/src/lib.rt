@@ -11,6 +11,7 @@ use network::split::SplitAnswer;
 use plan::check;
 use plan::check::Checked;
 use refusal::Refusal;
+use routes::Routed;
 use run::call;
 use run::call::Ran;
 use server::state::State;
@@ -29,7 +30,7 @@ ghost use Rattle.network.specs.Split.{splitTest};
 ghost use Rattle.plan.specs.Check.{totals};
 ghost use Rattle.part.specs.Calls.{startCall, commitCall};
 ghost use Rattle.server.specs.Answers.{stateOf, verdictOf};
-ghost use Rattle.agreement.specs.Words.{refusedWords, cardWords, PrintWords, splitWords, QuickWords, planWords, PlanWords, WriteWords, LoadWords, RunWords, stateFrom, stateWords, steppedWords, AskWords};
+ghost use Rattle.agreement.specs.Words.{refusedWords, cardWords, PrintWords, splitWords, QuickWords, planWords, PlanWords, WriteWords, RouteWords, LoadWords, RunWords, stateFrom, stateWords, steppedWords, AskWords};
 ghost use Rattle.agreement.specs.Version.{version};
 
 // The version of this library: 1,000,000 * major + 1,000 * minor + patch.
@@ -136,6 +137,38 @@ pub extern "C" fn agreement_write_plan(card: &[u8], lent: &mut [u8], answer: &mu
         Written::Refused(r) => {
             let words = refused_words(r);
             *answer = [words[0], words[1], words[2], words[3], 0, 0, 0, 0];
+        }
+    }
+}
+
+// Seeks f + 1 routes from the sources to the receiver that pass no server of `faults` and share nothing
+// but the receiver. The answer is 0, 1, f + 1, 0, with the eight bytes of each route in the first lent
+// bytes and the later ones as they were; or 0, 0, the servers that every such route meets, how many
+// they are; or 2, what is at fault, the refusal's number, its place. But for routes that are found,
+// every lent byte is as it was.
+#[no_mangle]
+pub extern "C" fn agreement_separate_routes(
+    card: &[u8],
+    faults: u8,
+    sources: u8,
+    receiver: u8,
+    lent: &mut [u8],
+    answer: &mut [u64; 4],
+)
+    ensures { λ r. ⌜ RouteWords (now (card .entry)) faults sources receiver (now (lent .entry)) (now (lent .exit)) (now (answer .exit)) ⌝ }
+{
+    let routed = routes::separate_routes(card, faults, sources, receiver, &mut *lent);
+    match routed {
+        Routed::Routes { count } => {
+            *answer = [0, 1, count as u64, 0];
+        }
+        Routed::Cut { servers } => {
+            let many = sets::size(servers);
+            *answer = [0, 0, servers as u64, many as u64];
+        }
+        Routed::Refused(r) => {
+            let words = refused_words(r);
+            *answer = words;
         }
     }
 }
