@@ -11,8 +11,8 @@
  *
  *   - A byte list is a pointer and a length. The pointer is not null, also where the length is 0,
  *     and `length` bytes can be read there (from `lent`: read and written).
- *   - `answer` points to 4, 5, 6, 7, 8, 9 or 12 words, as the declaration says, which the call fills.
- *     `state` points to 5 words, which it only reads.
+ *   - `answer` points to 4, 5, 6, 7, 8, 9 or 12 words, as the declaration says, which the call
+ *     fills. `state` points to 5 words, which it only reads.
  *   - The bytes and words that a call writes (`lent`, `answer`) lie apart from each other and from
  *     everything that it reads.
  *   - AGREEMENT_STACK bytes of stack are left.
@@ -27,7 +27,8 @@
  *   The first word says what the others are.
  *     AGREEMENT_ANSWERED (0)    the answer; each function says which words
  *     AGREEMENT_BAD_SPLIT (1)   of the split test only: F, L, C, R
- *     AGREEMENT_REFUSED (2)     what is at fault, the refusal's number, its place
+ *     AGREEMENT_REFUSED (2)     what is at fault, the refusal's number, its place; then zeros but
+ *                               for 17, which has F, L, C, R
  *   What is at fault is AGREEMENT_CARD (0), AGREEMENT_PLAN (1) or AGREEMENT_CALL (2). The place is
  *   that of the command byte at fault in card or plan; a call's refusal has place 0.
  *
@@ -46,16 +47,17 @@
  *   11      plan: k is not the one due, or N breaks its rule
  *   12      call: inputs not n bytes of 0 or 1; to start: the server's own input above 1
  *   13      call: faulty set over f servers, or a server not in V; separate routes: a source or the
- *           receiver not in V too; a server's own part: the server not in V, or a state at no kind of
- *           a block nor the end of this plan, or at the end with an ask open, or with v above 1, t
- *           above 2 or open above 1
+ *           receiver not in V too; a server's own part: the server not in V, or a state at no kind
+ *           of a block nor the end of this plan, or at the end with an ask open, or with v above 1,
+ *           t above 2 or open above 1
  *   14      call: lent buffer under n bytes; to print a card: shorter than the card to be written;
  *           to ask: shorter than the values due; separate routes: shorter than those found
  *   15      call: quick test: some link has no return
  *   16      call: a second ask while one is open, or a commit with none open
  *   17      call: plan writer: the network has a bad split, which comes with the refusal
  *   18      call: plan writer: lent buffer shorter than the plan
- *   The card's refusal comes before the plan's, and that before the call's 12, 13, 14, 15, 16, 17, 18.
+ *   The card's refusal comes before the plan's, and that before the call's 12, 13, 14, 15, 16, 17,
+ *   18.
  *
  * A server's own part
  *
@@ -244,8 +246,8 @@ void agreement_check_plan(const uint8_t *card, size_t card_length, const uint8_t
  * for this card is shorter. It is the same into every buffer that has room for it.
  * Or answer: 2, AGREEMENT_CALL, 17, 0, F, L, C, R exactly if agreement_split_test answers 1, F, L,
  * C, R; or 2, what is at fault, number, place, 0, 0, 0, 0: the card's refusal or, where the card is
- * read and no split is bad, 18 if `lent` is shorter than the plan. Then every byte of `lent` is as it
- * was.
+ * read and no split is bad, 18 if `lent` is shorter than the plan. Then every byte of `lent` is as
+ * it was.
  */
 void agreement_write_plan(const uint8_t *card, size_t card_length, uint8_t *lent,
                           size_t lent_length, uint64_t answer[8]);
@@ -260,8 +262,8 @@ void agreement_write_plan(const uint8_t *card, size_t card_length, uint8_t *lent
  * receiver is not in it. Every route meets one of them, a source counting as met. Then every byte of
  * `lent` is as it was.
  * Or answer: 2, what is at fault, number, place: the card's refusal; 13 where `faults` has more than
- * f servers, or a server of `faults`, of `sources` or the receiver is not in V; or 14 where there are
- * f+1 routes and `lent` is shorter than they are. Then every byte of `lent` is as it was.
+ * f servers, or a server of `faults`, of `sources` or the receiver is not in V; or 14 where there
+ * are f+1 routes and `lent` is shorter than they are. Then every byte of `lent` is as it was.
  */
 void agreement_separate_routes(const uint8_t *card, size_t card_length, uint8_t faults,
                                uint8_t sources, uint8_t receiver, uint8_t *lent,

@@ -90,6 +90,7 @@ pub fn stated(documents: &Documents) -> Held {
         format!("`answer` points to {check}, {split}, {start}, {ask}, {write}, {load} or {reader} words"),
         format!("`state` points to {state} words, which it only reads."),
         "a call's refusal has place 0.".to_string(),
+        format!("then zeros but for {}, which has F, L, C, R", CallGround::BadSplit.number()),
         format!("answer: {answered}, n, f, 0 and {eight} rows."),
         format!("Row u, the word answer[{before_rows} + u],"),
         "and it is 0 where u is no server.".to_string(),
