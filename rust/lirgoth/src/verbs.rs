@@ -241,30 +241,29 @@ fn plan_chart(path: &Path, folder: &Path, replace: bool) -> Result<Answer, Unrea
     if folder.exists() {
         planner::may_write(&Site::open(folder)?, &plan, replace)?;
     }
-    let mut answer = Answer::of(store(folder, &card, &bytes)?);
-    let planned = store_plan(&Site::open(folder)?, &card, &plan)?;
-    answer.out.extend(planned.out);
+    let stored = store(folder, &card, &bytes)?;
+    let mut answer = store_plan(&Site::open(folder)?, &card, &plan)?;
+    answer.out.splice(0..0, stored.into_bytes());
     Ok(answer)
 }
 
 /// The plan into the site's folder, and what the plan check says of it.
 fn store_plan(site: &Site, card: &[u8], plan: &[u8]) -> Result<Answer, Unreadable> {
-    let path = site.path(PLAN);
-    write(&path, plan)?;
     let mut answer = Answer::default();
-    let bytes = counted(plan.len(), "byte");
-    answer.line(&format!("{} written, {bytes}", path.display()));
-    match agreement::check_plan(card, plan) {
-        Ok(totals) => {
-            answer.line(&accepted(totals));
-            Ok(answer)
-        }
-        // The library accepts what it writes.
+    let totals = match agreement::check_plan(card, plan) {
+        Ok(totals) => totals,
+        // The library accepts what it writes; nothing else is to be stored.
         Err(refusal) => {
             answer.line(&refusal.to_string());
-            Ok(answer.refused())
+            return Ok(answer.refused());
         }
-    }
+    };
+    let path = site.path(PLAN);
+    write(&path, plan)?;
+    let bytes = counted(plan.len(), "byte");
+    answer.line(&format!("{} written, {bytes}", path.display()));
+    answer.line(&accepted(totals));
+    Ok(answer)
 }
 
 /// The card as bytes, or in hexadecimal if that is asked for. A terminal has no use for
