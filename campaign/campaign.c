@@ -13,8 +13,10 @@
  * there or its own, a refused card's are empty, a printed card has the links of its rows in order, is
  * read as the same rows and stays as it is when printed again, the quick test answers exactly the cards
  * whose links all have a return, by its numbers and as the split test does, a card with an accepted plan
- * has no bad split and servers enough, the load is refused as the plan check refuses, and else adds up to
- * the relaying places of the plan's bytes, no lent byte past what is written is changed, a refused call
+ * has no bad split and servers enough, a plan is written exactly where no split is bad, is accepted, and is
+ * the same into a buffer of just its length, separate routes keep the rules, and where there are too few no
+ * route is left without the servers that are shown, the load is refused as the plan check refuses, and else
+ * adds up to the relaying places of the plan's bytes, no lent byte past what is written is changed, a refused call
  * changes none, the bits of the servers that are not faulty are equal and some such server's input, and a
  * server's start, asks and commits refuse what they should and else lead from kind to kind, with no value
  * sent but its own.
@@ -28,6 +30,9 @@
 
 enum { MOST = 70000, POOL = 2048, LENT_MOST = 16, UNTOUCHED = 0xA5, CLEAN_MOST = AGREEMENT_CLEAN_CARD_LIMIT + 20 };
 enum { VALUES_MOST = AGREEMENT_VALUES_LIMIT + 4, ARRIVED_MOST = 12, TURNS = 6 };
+enum { FILL = 0xFF, ROUTES_MOST = AGREEMENT_ROUTES * AGREEMENT_ROUTE_BYTES + 4 };
+/* To write a plan takes much longer than all the rest, so that most rounds go without. */
+enum { ROUNDS_WITHOUT_PLAN = 64 };
 
 static uint64_t state;
 
@@ -276,6 +281,162 @@ static void hold_plan(const uint64_t answer[4], const uint64_t network[12], cons
         fail("a plan is accepted for too few servers");
 }
 
+/* How many plans were written, and how many calls found separate routes. */
+static uint64_t plans, separate;
+
+/* Writes the plan into a buffer of this length, with this answer; what it wrote, in a block of its own. */
+static struct list write_into(struct list card, size_t length, uint64_t answer[8])
+{
+    static uint8_t untouched[AGREEMENT_PLAN_LIMIT];
+    if (untouched[0] != UNTOUCHED) /* a megabyte, and once is enough */
+        memset(untouched, UNTOUCHED, sizeof untouched);
+    struct list lent = list_of(untouched, length);
+    agreement_write_plan(start_of(card), card.length, start_of(lent), lent.length, answer);
+    size_t written = answer[0] == AGREEMENT_ANSWERED ? (size_t)answer[1] : 0;
+    if (written > length)
+        fail("a plan is longer than the buffer that it was written into");
+    if (memcmp(start_of(lent) + written, untouched, length - written) != 0)
+        fail("a byte was written that is not the plan's");
+    struct list plan = list_of(lent.bytes, written);
+    free(lent.bytes);
+    return plan;
+}
+
+/* A plan that was written for the card: accepted, the same into a buffer of just its length, and 18 into
+   one that is a byte shorter. */
+static void hold_written(struct list card, struct list plan)
+{
+    const uint64_t too_long[8] = {AGREEMENT_REFUSED, AGREEMENT_CALL, AGREEMENT_SHORT_FOR_PLAN};
+    const uint64_t again[8] = {AGREEMENT_ANSWERED, plan.length};
+    uint64_t answer[8];
+    agreement_check_plan(start_of(card), card.length, plan.bytes, plan.length, answer);
+    if (answer[0] != AGREEMENT_ANSWERED)
+        fail("a plan that was written is refused");
+    struct list same = write_into(card, plan.length, answer);
+    if (memcmp(answer, again, sizeof again) != 0 || memcmp(same.bytes, plan.bytes, plan.length) != 0)
+        fail("a plan is another one in another buffer");
+    free(same.bytes);
+    free(write_into(card, plan.length - 1, answer).bytes);
+    if (memcmp(answer, too_long, sizeof too_long) != 0)
+        fail("a plan that is a byte too long has another refusal than it should");
+}
+
+/* The plan writer on a card that was read, and split, with these answers. */
+static void call_write(struct list card, const uint64_t network[12], const uint64_t split[5], uint64_t answer[8])
+{
+    uint64_t due[8] = {AGREEMENT_REFUSED, AGREEMENT_CALL};
+    int has_plan = split[0] == AGREEMENT_ANSWERED;
+    struct list plan = write_into(card, has_plan ? AGREEMENT_PLAN_LIMIT : draw(40), answer);
+    if (network[0] != AGREEMENT_ANSWERED)
+        memcpy(due, network, 4 * sizeof *due);
+    else if (!has_plan) {
+        due[2] = AGREEMENT_NO_PLAN;
+        memcpy(due + 4, split + 1, 4 * sizeof *due);
+    }
+    if (has_plan) {
+        if (answer[0] != AGREEMENT_ANSWERED)
+            fail("no plan is written where no split is bad");
+        hold_written(card, plan);
+        plans++;
+    } else if (memcmp(answer, due, sizeof due) != 0) {
+        fail("a card without a plan has another refusal than it should");
+    }
+    free(plan.bytes);
+}
+
+/* A way that routes may take: from these servers to that one, without the faulty ones. */
+struct way {
+    uint8_t faults, sources, receiver;
+};
+
+static int size_of(uint64_t set)
+{
+    int size = 0;
+    for (; set != 0; set &= set - 1)
+        size++;
+    return size;
+}
+
+/* Whether every server of a way is there, and no more than f of them fail. */
+static int is_way(struct way way, const uint64_t network[12])
+{
+    uint64_t strangers = (uint64_t)(way.faults | way.sources) >> network[1];
+    return strangers == 0 && way.receiver < network[1] && (uint64_t)size_of(way.faults) <= network[2];
+}
+
+/* Routes that were found: each by itself, and that they share nothing but the receiver. */
+static void hold_routes(const uint8_t *routes, size_t count, struct way way, const uint64_t network[12])
+{
+    uint64_t met = way.faults | UINT64_C(1) << way.receiver;
+    for (size_t i = 0; i < count; i++, routes += AGREEMENT_ROUTE_BYTES) {
+        size_t last = 0;
+        while (last + 1 < AGREEMENT_ROUTE_BYTES && routes[last + 1] != FILL)
+            last++;
+        if (last == 0 || routes[last] != way.receiver || routes[0] >= network[1] || !(way.sources >> routes[0] & 1))
+            fail("a separate route has another end than it should");
+        for (size_t at = 0; at < last; at++) {
+            if (routes[at] >= network[1] || met >> routes[at] & 1 || !(network[4 + routes[at]] >> routes[at + 1] & 1))
+                fail("separate routes share a server, or meet a faulty one, or lack a link");
+            met |= UINT64_C(1) << routes[at];
+        }
+        for (size_t at = last + 1; at < AGREEMENT_ROUTE_BYTES; at++)
+            if (routes[at] != FILL)
+                fail("a byte follows the fill of a route");
+    }
+}
+
+/* Whether some source has a route to the receiver that meets none of these servers. */
+static int is_reached(struct way way, uint64_t without, const uint64_t network[12])
+{
+    uint64_t allowed = ~(without | way.faults), reached = way.sources & allowed & ~(UINT64_C(1) << way.receiver);
+    for (unsigned round = 0; round < AGREEMENT_SERVERS; round++)
+        for (unsigned u = 0; u < AGREEMENT_SERVERS; u++)
+            if (reached >> u & 1)
+                reached |= network[4 + u] & allowed;
+    return reached >> way.receiver & 1;
+}
+
+/* Separate routes over a card that was read with this answer, by any way, mostly one that can be. */
+static void call_routes(struct list card, const uint64_t network[12], uint64_t answer[4])
+{
+    uint64_t due[4] = {AGREEMENT_REFUSED, AGREEMENT_CALL, AGREEMENT_BAD_FAULTY_SET};
+    uint64_t n = network[0] == AGREEMENT_ANSWERED ? network[1] : AGREEMENT_SERVERS;
+    int any = draw(8) == 0;
+    struct way way = {(uint8_t)(any ? draw(256) : draw(2) << draw(n)), (uint8_t)draw(any ? 256 : UINT64_C(1) << n),
+                      (uint8_t)draw(any ? 256 : n)};
+    static uint8_t untouched[ROUTES_MOST];
+    memset(untouched, UNTOUCHED, sizeof untouched);
+    struct list lent = list_of(untouched, draw(4) == 0 ? draw(ROUTES_MOST) : ROUTES_MOST);
+    agreement_separate_routes(start_of(card), card.length, way.faults, way.sources, way.receiver, start_of(lent),
+                              lent.length, answer);
+    size_t count = (size_t)network[2] + 1, written = 0;
+    if (network[0] != AGREEMENT_ANSWERED || !is_way(way, network)) {
+        if (network[0] != AGREEMENT_ANSWERED)
+            memcpy(due, network, sizeof due);
+        if (memcmp(answer, due, sizeof due) != 0)
+            fail("a way that cannot be has another refusal than it should");
+    } else if (answer[0] == AGREEMENT_REFUSED) {
+        due[2] = AGREEMENT_SHORT_BUFFER;
+        if (memcmp(answer, due, sizeof due) != 0 || lent.length >= count * AGREEMENT_ROUTE_BYTES)
+            fail("separate routes are refused that should not be");
+    } else if (answer[1] == 1) {
+        written = count * AGREEMENT_ROUTE_BYTES;
+        if (answer[0] != AGREEMENT_ANSWERED || answer[2] != count || answer[3] != 0 || written > lent.length)
+            fail("separate routes are another number than they should be");
+        hold_routes(lent.bytes, count, way, network);
+        separate++;
+    } else {
+        if (answer[0] != AGREEMENT_ANSWERED || answer[1] != 0 || (uint64_t)size_of(answer[2]) != answer[3] ||
+            answer[3] >= count || answer[2] >> way.receiver & 1)
+            fail("the servers that every route meets cannot be these");
+        if (is_reached(way, answer[2], network))
+            fail("some route meets none of the servers that every route meets");
+    }
+    if (memcmp(start_of(lent) + written, untouched, lent.length - written) != 0)
+        fail("a byte was written that is not a route's");
+    free(lent.bytes);
+}
+
 /* The relaying places of an accepted plan: for each route, its bytes before the fill less two. */
 static uint64_t relaying_places(struct list plan)
 {
@@ -509,7 +670,7 @@ static uint64_t answered, cards, two_way, relayed;
 static int call_all(struct files files)
 {
     const uint8_t *card = start_of(files.card), *plan = start_of(files.plan);
-    uint64_t network[12], printed[4], split[5], quick[4], checked[4], load[9], ran[4];
+    uint64_t network[12], printed[4], split[5], quick[4], checked[4], routes[4], write[8], load[9], ran[4];
     int fresh = 0;
     agreement_read_card(card, files.card.length, network);
     fresh |= is_new(network, 0);
@@ -526,6 +687,13 @@ static int call_all(struct files files)
     agreement_check_plan(card, files.card.length, plan, files.plan.length, checked);
     fresh |= is_new(checked, 2);
     hold_plan(checked, network, split);
+    call_routes(files.card, network, routes);
+    fresh |= is_new(routes, 9);
+    if (split[0] != AGREEMENT_ANSWERED || draw(ROUNDS_WITHOUT_PLAN) == 0) {
+        call_write(files.card, network, split, write);
+        fresh |= is_new(write, 10);
+        fresh |= is_new(write + 4, 11);
+    }
     agreement_load(card, files.card.length, plan, files.plan.length, load);
     fresh |= is_new(load, 6);
     fresh |= is_new(load + 4, 7);
@@ -591,8 +759,9 @@ int main(int argc, char **argv)
         }
     }
     printf("campaign: %" PRIu64 " rounds, %" PRIu64 " cards printed, %" PRIu64 " two-way, %" PRIu64
-           " loads with relays, %" PRIu64 " runs answered, %" PRIu64 " turns, %zu kept\n",
-           calls, cards, two_way, relayed, answered, turns, pooled);
+           " plans written, %" PRIu64 " with separate routes, %" PRIu64 " loads with relays, %" PRIu64
+           " runs answered, %" PRIu64 " turns, %zu kept\n",
+           calls, cards, two_way, plans, separate, relayed, answered, turns, pooled);
     for (size_t i = 0; i < pooled; i++) {
         free(pool[i].card.bytes);
         free(pool[i].plan.bytes);

@@ -13,7 +13,8 @@
 #include <stdio.h>
 #include <string.h>
 
-enum { UNTOUCHED = 0xA5, FILL = 0xFF, ROUTE_BYTES = 8, LENT = AGREEMENT_SERVERS + 1 };
+enum { UNTOUCHED = 0xA5, FILL = 0xFF, ROUTE_BYTES = AGREEMENT_ROUTE_BYTES, LENT = AGREEMENT_SERVERS + 1 };
+enum { ROUTES_LENT = AGREEMENT_ROUTES * AGREEMENT_ROUTE_BYTES + 1 };
 enum { CLEAN_LENT = AGREEMENT_CLEAN_CARD_LIMIT + 1, VALUES_LENT = AGREEMENT_VALUES_LIMIT + 1 };
 enum { HEAD = 0x01, LINK, CARD_END };
 enum { BLOCK = 0x10, TO_S, WITHIN_S, FROM_S, REPORT, PLAN_END };
@@ -118,6 +119,36 @@ static void check_plan(const char *what, struct list card, struct list plan,
     struct answer answer = blank();
     agreement_check_plan(card.bytes, card.length, plan.bytes, plan.length, answer.words);
     hold("agreement_check_plan", what, answer.words, expected, 4);
+}
+
+/* Writes the plan into so many bytes. */
+static void write_plan(const char *what, struct list card, size_t length, const uint64_t expected[8],
+                       struct list plan)
+{
+    static uint8_t lent[AGREEMENT_PLAN_LIMIT + 1];
+    struct answer answer = blank();
+    memset(lent, UNTOUCHED, sizeof lent);
+    agreement_write_plan(card.bytes, card.length, lent, length, answer.words);
+    hold("agreement_write_plan", what, answer.words, expected, 8);
+    hold_lent("agreement_write_plan", what, lent, sizeof lent, plan);
+}
+
+/* From where, to where, and without whom. */
+struct way {
+    uint8_t faults, sources, receiver;
+};
+
+/* Looks for separate routes with so many bytes lent. */
+static void separate_routes(const char *what, struct list card, struct way way, size_t length,
+                            const uint64_t expected[4], struct list routes)
+{
+    struct answer answer = blank();
+    uint8_t lent[ROUTES_LENT];
+    memset(lent, UNTOUCHED, sizeof lent);
+    agreement_separate_routes(card.bytes, card.length, way.faults, way.sources, way.receiver, lent,
+                              length, answer.words);
+    hold("agreement_separate_routes", what, answer.words, expected, 4);
+    hold_lent("agreement_separate_routes", what, lent, sizeof lent, routes);
 }
 
 static void load(const char *what, struct list card, struct list plan, const uint64_t expected[9])
@@ -227,6 +258,9 @@ static void card_refused(const char *what, struct list card, uint64_t number, ui
     split_test(what, card, expected);
     quick_test(what, card, expected);
     check_plan(what, card, zeros_of(0), expected);
+    write_plan(what, card, 0, expected, zeros_of(0));
+    write_plan(what, card, AGREEMENT_PLAN_LIMIT, expected, zeros_of(0));
+    separate_routes(what, card, (struct way){FILL, FILL, FILL}, 0, expected, zeros_of(0));
     load(what, card, zeros_of(0), expected);
     run(what, card, zeros_of(0), two_servers, expected, 0);
     site_refused(what, card, zeros_of(0), expected);
@@ -539,6 +573,41 @@ static void bad_states(struct list card, struct list plan)
         bad_state("a state that cannot be", card, plan, states[i]);
 }
 
+/* The plan of the small site is written into every buffer that has room for it. */
+static void writes(struct list card, struct list plan)
+{
+    const uint64_t written[8] = {AGREEMENT_ANSWERED, plan.length};
+    const uint64_t too_short[8] = {AGREEMENT_REFUSED, AGREEMENT_CALL, AGREEMENT_SHORT_FOR_PLAN};
+    const uint64_t no_plan[8] = {AGREEMENT_REFUSED, AGREEMENT_CALL, AGREEMENT_NO_PLAN, 0, 0, 1, 0, 2};
+    for (size_t length = 0; length < plan.length; length++)
+        write_plan("a buffer too short for the plan", card, length, too_short, zeros_of(0));
+    write_plan("a buffer of the plan's length", card, plan.length, written, plan);
+    write_plan("a buffer of a plan's limit", card, AGREEMENT_PLAN_LIMIT, written, plan);
+    /* A bad split comes before a short buffer. */
+    write_plan("no links", LIST(HEAD, 2, 0, CARD_END), 0, no_plan, zeros_of(0));
+    write_plan("no links", LIST(HEAD, 2, 0, CARD_END), AGREEMENT_PLAN_LIMIT, no_plan, zeros_of(0));
+}
+
+/* Servers 0, 1 and 2 with links to 3, which has one to 4; one may fail. */
+static void routes(void)
+{
+    struct list card = LIST(HEAD, 5, 1, LINK, 0, 3, LINK, 1, 3, LINK, 2, 3, LINK, 3, 4, CARD_END);
+    const uint64_t found[4] = {AGREEMENT_ANSWERED, 1, 2, 0};
+    const uint64_t met[4] = {AGREEMENT_ANSWERED, 0, 1 << 3, 1};
+    const uint64_t no_route[4] = {AGREEMENT_ANSWERED, 0, 0, 0};
+    const uint64_t too_short[4] = {AGREEMENT_REFUSED, AGREEMENT_CALL, AGREEMENT_SHORT_BUFFER, 0};
+    const uint64_t cannot_be[4] = {AGREEMENT_REFUSED, AGREEMENT_CALL, AGREEMENT_BAD_FAULTY_SET, 0};
+    const struct way to_3 = {1 << 0, 1 << 0 | 1 << 1 | 1 << 2 | 1 << 3, 3}, to_4 = {0, 1 << 1 | 1 << 2, 4};
+    separate_routes("two routes", card, to_3, 2 * ROUTE_BYTES, found, LIST(DIRECT(1, 3), DIRECT(2, 3)));
+    separate_routes("two routes", card, to_3, ROUTES_LENT, found, LIST(DIRECT(1, 3), DIRECT(2, 3)));
+    separate_routes("a buffer too short", card, to_3, 2 * ROUTE_BYTES - 1, too_short, zeros_of(0));
+    separate_routes("routes that all meet 3", card, to_4, 0, met, zeros_of(0));
+    separate_routes("no route", card, (struct way){0, 1 << 4, 3}, 0, no_route, zeros_of(0));
+    static const struct way ways[] = {{1 << 0 | 1 << 1, 0, 0}, {1 << 5, 0, 0}, {0, 1 << 5, 0}, {0, 0, 5}, {0, 0, FILL}};
+    for (size_t i = 0; i < sizeof ways / sizeof *ways; i++)
+        separate_routes("a way that cannot be", card, ways[i], 0, cannot_be, zeros_of(0));
+}
+
 /* Two servers with a link from 0 to 1, the smallest site. */
 static void small_site(const char *what, struct list card, struct list plan)
 {
@@ -626,6 +695,8 @@ int main(void)
     prints();
     quick_tests();
     loads();
+    writes(card, plan);
+    routes();
     small_site("the small site", card, plan);
     twin_cables(plan);
     bad_split();

@@ -24,13 +24,14 @@
 enum { SIZE = 4 * AGREEMENT_STACK, PAINT = 0xA5, FILE_MOST = 70000 };
 
 enum function {
-    VERSION, READ_CARD, PRINT_CARD, SPLIT_TEST, QUICK_TEST, CHECK_PLAN, LOAD, RUN, START, ASK, COMMIT, FUNCTIONS
+    VERSION, READ_CARD, PRINT_CARD, SPLIT_TEST, QUICK_TEST, CHECK_PLAN, WRITE_PLAN, SEPARATE_ROUTES, LOAD, RUN,
+    START, ASK, COMMIT, FUNCTIONS
 };
 
 static const char *const names[FUNCTIONS] = {
     "agreement_version", "agreement_read_card", "agreement_print_card", "agreement_split_test",
-    "agreement_quick_test", "agreement_check_plan", "agreement_load", "agreement_run",
-    "agreement_start", "agreement_ask", "agreement_commit"};
+    "agreement_quick_test", "agreement_check_plan", "agreement_write_plan", "agreement_separate_routes",
+    "agreement_load", "agreement_run", "agreement_start", "agreement_ask", "agreement_commit"};
 
 struct list {
     uint8_t bytes[FILE_MOST];
@@ -43,6 +44,8 @@ static const uint8_t *inputs, *table;
 static size_t inputs_length, table_length, lent_length, clean_length;
 static uint8_t faulty, lent[2 * AGREEMENT_SERVERS], clean[AGREEMENT_CLEAN_CARD_LIMIT];
 static uint8_t server, input, values[AGREEMENT_VALUES_LIMIT];
+static uint8_t written[AGREEMENT_PLAN_LIMIT], routes[AGREEMENT_ROUTES * AGREEMENT_ROUTE_BYTES];
+static uint8_t faults, sources, receiver;
 static uint64_t state[AGREEMENT_STATE_WORDS];
 static uint64_t answer[12];
 static enum function function;
@@ -72,6 +75,13 @@ static void call(void)
         break;
     case CHECK_PLAN:
         agreement_check_plan(card.bytes, card.length, plan.bytes, plan.length, answer);
+        break;
+    case WRITE_PLAN:
+        agreement_write_plan(card.bytes, card.length, written, sizeof written, answer);
+        break;
+    case SEPARATE_ROUTES:
+        agreement_separate_routes(card.bytes, card.length, faults, sources, receiver, routes, sizeof routes,
+                                  answer);
         break;
     case LOAD:
         agreement_load(card.bytes, card.length, plan.bytes, plan.length, answer);
@@ -147,6 +157,17 @@ static void call_run(void)
     call_apart(RUN);
 }
 
+/* Every way to every server: each set of sources, without any server or without one. */
+static void call_every_way(void)
+{
+    for (unsigned way = 0; way < 256 * AGREEMENT_SERVERS * (AGREEMENT_SERVERS + 1); way++) {
+        sources = (uint8_t)(way % 256);
+        receiver = (uint8_t)(way / 256 % AGREEMENT_SERVERS);
+        faults = (uint8_t)(1u << way / 256 / AGREEMENT_SERVERS >> 1);
+        call_apart(SEPARATE_ROUTES);
+    }
+}
+
 /* Asks and commits at a kind of a block, as one server. */
 static void call_own(uint64_t block, uint64_t kind)
 {
@@ -161,6 +182,9 @@ static void call_all(void)
 {
     /* The kinds, and the servers with them, take turns. */
     static uint64_t turn;
+    sources = (uint8_t)~(1u << turn % AGREEMENT_SERVERS);
+    receiver = (uint8_t)(turn % AGREEMENT_SERVERS);
+    call_apart(SEPARATE_ROUTES);
     call_apart(VERSION);
     call_apart(PRINT_CARD);
     call_apart(SPLIT_TEST);
@@ -187,18 +211,26 @@ static void call_every_turn(void)
     }
 }
 
+/* A plan is written by the card alone, and takes longer than all other calls. */
+static void call_damaged(const struct list *file)
+{
+    call_all();
+    if (file == &card)
+        call_apart(WRITE_PLAN);
+}
+
 /* Damages one file in every way, with the others as they are. */
 static void damage(struct list *file)
 {
     size_t length = file->length;
     for (file->length = 0; file->length < length; file->length++)
-        call_all();
+        call_damaged(file);
     for (size_t i = 0; i < length; i++) {
         uint8_t old = file->bytes[i];
         const uint8_t changed[] = {0xFF, (uint8_t)(old + 1), (uint8_t)(old ^ 0x10)};
         for (size_t k = 0; k < sizeof changed; k++) {
             file->bytes[i] = changed[k];
-            call_all();
+            call_damaged(file);
         }
         file->bytes[i] = old;
     }
@@ -236,6 +268,8 @@ int main(int argc, char **argv)
         for (lent_length = 0; lent_length < sizeof lent; lent_length++)
             call_all();
         call_every_turn();
+        call_apart(WRITE_PLAN);
+        call_every_way();
         damage(&card);
         damage(&plan);
         damage(&run_in);
@@ -243,7 +277,7 @@ int main(int argc, char **argv)
     int over = 0;
     for (int i = 0; i < FUNCTIONS; i++) {
         size_t bytes = used((enum function)i);
-        printf("%-22s uses %4zu bytes of stack\n", names[i], bytes);
+        printf("%-25s uses %4zu bytes of stack\n", names[i], bytes);
         over |= bytes > AGREEMENT_STACK;
     }
     if (over)

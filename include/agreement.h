@@ -1,7 +1,7 @@
 /*
  * The agreement library for x86-64 Linux (System V ABI): card reader, card printed back, split
- * test, quick test for two-way sites, plan check, load on each relay, run, and a server's own part
- * in a live network.
+ * test, quick test for two-way sites, plan check, plan writer, separate routes, load on each relay,
+ * run, and a server's own part in a live network.
  *
  * The library is written in Rattle and proved: every function below meets the contract that is
  * written above it, for all arguments. It allocates nothing, keeps no state and calls nothing, so
@@ -11,8 +11,8 @@
  *
  *   - A byte list is a pointer and a length. The pointer is not null, also where the length is 0,
  *     and `length` bytes can be read there (from `lent`: read and written).
- *   - `answer` points to 4, 5, 6, 7, 9 or 12 words, as the declaration says, which the call fills.
- *     `state` points to 5 words, which it only reads.
+ *   - `answer` points to 4, 5, 6, 7, 8, 9 or 12 words, as the declaration says, which the call
+ *     fills. `state` points to 5 words, which it only reads.
  *   - The bytes and words that a call writes (`lent`, `answer`) lie apart from each other and from
  *     everything that it reads.
  *   - AGREEMENT_STACK bytes of stack are left.
@@ -27,7 +27,8 @@
  *   The first word says what the others are.
  *     AGREEMENT_ANSWERED (0)    the answer; each function says which words
  *     AGREEMENT_BAD_SPLIT (1)   of the split test only: F, L, C, R
- *     AGREEMENT_REFUSED (2)     what is at fault, the refusal's number, its place
+ *     AGREEMENT_REFUSED (2)     what is at fault, the refusal's number, its place; then zeros but
+ *                               for 17, which has F, L, C, R
  *   What is at fault is AGREEMENT_CARD (0), AGREEMENT_PLAN (1) or AGREEMENT_CALL (2). The place is
  *   that of the command byte at fault in card or plan; a call's refusal has place 0.
  *
@@ -45,14 +46,18 @@
  *   10      plan: a route shares a server, the receiver aside, with an earlier one of its f+1
  *   11      plan: k is not the one due, or N breaks its rule
  *   12      call: inputs not n bytes of 0 or 1; to start: the server's own input above 1
- *   13      call: faulty set over f servers, or a server not in V; a server's own part: the server
- *           not in V, or a state at no kind of a block nor the end of this plan, or at the end with
- *           an ask open, or with v above 1, t above 2 or open above 1
+ *   13      call: faulty set over f servers, or a server not in V; separate routes: a source or the
+ *           receiver not in V too; a server's own part: the server not in V, or a state at no kind
+ *           of a block nor the end of this plan, or at the end with an ask open, or with v above 1,
+ *           t above 2 or open above 1
  *   14      call: lent buffer under n bytes; to print a card: shorter than the card to be written;
- *           to ask: shorter than the values due
+ *           to ask: shorter than the values due; separate routes: shorter than those found
  *   15      call: quick test: some link has no return
  *   16      call: a second ask while one is open, or a commit with none open
- *   The card's refusal comes before the plan's, and that before the call's 12, 13, 14, 15, 16.
+ *   17      call: plan writer: the network has a bad split, which comes with the refusal
+ *   18      call: plan writer: lent buffer shorter than the plan
+ *   The card's refusal comes before the plan's, and that before the call's 12, 13, 14, 15, 16, 17,
+ *   18.
  *
  * A server's own part
  *
@@ -124,10 +129,12 @@ enum {
     AGREEMENT_SHARED_SERVER = 10, /* between two routes to one receiver */
     AGREEMENT_BAD_REPORT = 11,    /* its k or its N */
     AGREEMENT_BAD_INPUTS = 12,    /* a server's own input too */
-    AGREEMENT_BAD_FAULTY_SET = 13, /* of a server's own part: the server, or its state */
+    AGREEMENT_BAD_FAULTY_SET = 13, /* a source or receiver; a server's own part: it or its state */
     AGREEMENT_SHORT_BUFFER = 14,  /* `lent` */
     AGREEMENT_ONE_WAY = 15,       /* a link without a return */
-    AGREEMENT_OUT_OF_TURN = 16    /* an ask while one is open, a commit while none is */
+    AGREEMENT_OUT_OF_TURN = 16,   /* an ask while one is open, a commit while none is */
+    AGREEMENT_NO_PLAN = 17,       /* the network has a bad split */
+    AGREEMENT_SHORT_FOR_PLAN = 18 /* `lent` */
 };
 
 /* The kinds of carriages of a block, by the plan's commands, and the end, for state[1]. */
@@ -154,7 +161,16 @@ enum {
 /* The longest clean card: agreement_print_card never refuses 14 for a buffer of so many bytes. */
 #define AGREEMENT_CLEAN_CARD_LIMIT 172
 
-/* The most bytes that a card and a plan may have; longer ones are refused 1. */
+/* A route as a plan has it: its servers from source to receiver, then FF. */
+#define AGREEMENT_ROUTE_BYTES 8
+
+/* The most f+1: agreement_separate_routes never refuses 14 for a buffer of so many routes. */
+#define AGREEMENT_ROUTES 3
+
+/*
+ * The most bytes that a card and a plan may have; longer ones are refused 1. No plan that is written
+ * is longer: agreement_write_plan never refuses 18 for a buffer of so many bytes.
+ */
 #define AGREEMENT_CARD_LIMIT 1024
 #define AGREEMENT_PLAN_LIMIT 1048576
 
@@ -222,6 +238,36 @@ void agreement_quick_test(const uint8_t *card, size_t card_length, uint64_t answ
  */
 void agreement_check_plan(const uint8_t *card, size_t card_length, const uint8_t *plan,
                           size_t plan_length, uint64_t answer[4]);
+
+/*
+ * The plan writer: a plan for the card's network.
+ * answer: 0, bytes, 0, 0, 0, 0, 0, 0. Then the first `bytes` bytes of `lent` are the plan, and its
+ * later bytes are as they were. agreement_check_plan accepts the plan, and no plan that it accepts
+ * for this card is shorter. It is the same into every buffer that has room for it.
+ * Or answer: 2, AGREEMENT_CALL, 17, 0, F, L, C, R exactly if agreement_split_test answers 1, F, L,
+ * C, R; or 2, what is at fault, number, place, 0, 0, 0, 0: the card's refusal or, where the card is
+ * read and no split is bad, 18 if `lent` is shorter than the plan. Then every byte of `lent` is as
+ * it was.
+ */
+void agreement_write_plan(const uint8_t *card, size_t card_length, uint8_t *lent,
+                          size_t lent_length, uint64_t answer[8]);
+
+/*
+ * Separate routes: f+1 routes, each from a server of `sources` to `receiver` and with no server of
+ * `faults`, that share nothing but the receiver, or else the servers that stand in their way. A
+ * source that is faulty, or is the receiver, counts as none. No route leads to a faulty receiver.
+ * answer: 0, 1, f+1, 0 if there are so many routes. Then they stand in the first bytes of `lent`,
+ * AGREEMENT_ROUTE_BYTES for each, and its later bytes are as they were.
+ * Else answer: 0, 0, servers, count. `servers` is a set of `count` servers, at most f, and the
+ * receiver is not in it. Every route meets one of them, a source counting as met. Then every byte of
+ * `lent` is as it was.
+ * Or answer: 2, what is at fault, number, place: the card's refusal; 13 where `faults` has more than
+ * f servers, or a server of `faults`, of `sources` or the receiver is not in V; or 14 where there
+ * are f+1 routes and `lent` is shorter than they are. Then every byte of `lent` is as it was.
+ */
+void agreement_separate_routes(const uint8_t *card, size_t card_length, uint8_t faults,
+                               uint8_t sources, uint8_t receiver, uint8_t *lent,
+                               size_t lent_length, uint64_t answer[4]);
 
 /*
  * The load on each relay: how many of the plan's routes does each server relay? A server relays a

@@ -169,6 +169,7 @@ impl Drop for Folder {
 fn example_sites_end_as_they_are_rehearsed() {
     for (name, status) in [
         ("dry-bulk", DECIDED),
+        ("eastward", DECIDED),
         ("patched", DECIDED),
         ("ship", DECIDED),
         ("shore", DECIDED),
@@ -205,7 +206,7 @@ fn two_offices_may_fail_at_once() {
 #[test]
 fn absent_offices_are_missed() {
     let absent = ["--absent", PATIENT[0], PATIENT[1]];
-    for name in ["dry-bulk", "ship", "shore"] {
+    for name in ["dry-bulk", "eastward", "ship", "shore"] {
         let expected = Site::example(name).run(&[]);
         assert_eq!(offices(&example(name), &absent), (expected, DECIDED));
     }

@@ -2,8 +2,8 @@
 //! with `None` for words that the library's contract rules out.
 
 use crate::{
-    Asked, CallGround, CardGround, Load, Network, PlanGround, Quick, Refusal, ServerSet, Split,
-    State, Totals,
+    Asked, CallGround, CardGround, Load, Network, PlanGround, Quick, Refusal, Separate, ServerSet,
+    Split, State, Totals, Unwritten,
 };
 use crate::{CLEAN_CARD_LIMIT, PLAN_LIMIT, VALUES_LIMIT};
 
@@ -26,6 +26,12 @@ const WITHOUT_LINKS: u64 = 4;
 const OF_A_LINK: u64 = 3;
 const LONGEST_CLEAN: u64 = CLEAN_CARD_LIMIT as u64;
 
+/// The plan of two servers without faults, the shortest there is.
+const SHORTEST_PLAN: u64 = 14;
+const LONGEST_PLAN: u64 = PLAN_LIMIT as u64;
+/// f+1 routes are looked for, and f is at most 2.
+const MOST_ROUTES: u64 = 3;
+
 /// No network has more blocks than one of eight servers and two faults.
 const MOST_BLOCKS: u64 = 1_499;
 /// No carriage takes less than a byte of its plan.
@@ -37,6 +43,9 @@ const MOST_VALUES: u64 = VALUES_LIMIT as u64;
 
 /// The t of a server that is not sure.
 const UNSURE: u64 = 2;
+
+/// Why a call for separate routes is turned back.
+const OF_ROUTES: [CallGround; 2] = [CallGround::FaultSet, CallGround::Buffer];
 
 /// Why a call to run is turned back, and one to start, to ask and to commit.
 const OF_A_RUN: [CallGround; 3] = [CallGround::Inputs, CallGround::FaultSet, CallGround::Buffer];
@@ -89,12 +98,7 @@ pub fn printed_or_refusal(answer: [u64; 4]) -> Option<Result<usize, Refusal>> {
 pub fn split_or_refusal(answer: [u64; 5]) -> Option<Result<Option<Split>, Refusal>> {
     match answer {
         [ANSWERED, 0, 0, 0, 0] => Some(Ok(None)),
-        [BAD_SPLIT, f, l, c, r] => Some(Ok(Some(Split {
-            f: set(f)?,
-            l: set(l)?,
-            c: set(c)?,
-            r: set(r)?,
-        }))),
+        [BAD_SPLIT, split @ ..] => Some(Ok(Some(self::split(split)?))),
         [REFUSED, OF_CARD, number, place, 0] => Some(Err(of_card(number, place)?)),
         _ => None,
     }
@@ -125,6 +129,46 @@ pub fn totals_or_refusal(answer: [u64; 4]) -> Option<Result<Totals, Refusal>> {
             }))
         }
         [REFUSED, whose, number, place] => Some(Err(of_site([whose, number, place], &[])?)),
+        _ => None,
+    }
+}
+
+/// How many bytes the plan has that was written, or why none was.
+pub fn written_or_refusal(answer: [u64; 8]) -> Option<Result<usize, Unwritten>> {
+    match answer {
+        [ANSWERED, bytes @ SHORTEST_PLAN..=LONGEST_PLAN, 0, 0, 0, 0, 0, 0] => {
+            Some(Ok(usize::try_from(bytes).ok()?))
+        }
+        [REFUSED, OF_CALL, number, 0, split @ ..]
+            if of_call(number, &[CallGround::BadSplit]).is_some() =>
+        {
+            Some(Err(Unwritten::BadSplit(self::split(split)?)))
+        }
+        [REFUSED, OF_CALL, number, 0, 0, 0, 0, 0] => {
+            let refusal = of_call(number, &[CallGround::PlanBuffer])?;
+            Some(Err(Unwritten::Refused(refusal)))
+        }
+        [REFUSED, OF_CARD, number, place, 0, 0, 0, 0] => {
+            Some(Err(Unwritten::Refused(of_card(number, place)?)))
+        }
+        _ => None,
+    }
+}
+
+/// Separate routes, or the servers that every route meets.
+pub fn separate_or_refusal(answer: [u64; 4]) -> Option<Result<Separate, Refusal>> {
+    match answer {
+        [ANSWERED, 1, routes @ 1..=MOST_ROUTES, 0] => {
+            let routes = usize::try_from(routes).ok()?;
+            Some(Ok(Separate::Found { routes }))
+        }
+        // There are fewer of them than routes were looked for.
+        [ANSWERED, 0, servers, count] if count < MOST_ROUTES => {
+            let servers = set(servers)?;
+            (servers.len() as u64 == count).then_some(Ok(Separate::Cut { servers }))
+        }
+        [REFUSED, OF_CARD, number, place] => Some(Err(of_card(number, place)?)),
+        [REFUSED, OF_CALL, number, 0] => Some(Err(of_call(number, &OF_ROUTES)?)),
         _ => None,
     }
 }
@@ -231,6 +275,16 @@ fn of_call(number: u64, grounds: &[CallGround]) -> Option<Refusal> {
         .map(|ground| Refusal::Call { ground })
 }
 
+/// F, L, C, R.
+fn split([f, l, c, r]: [u64; 4]) -> Option<Split> {
+    Some(Split {
+        f: set(f)?,
+        l: set(l)?,
+        c: set(c)?,
+        r: set(r)?,
+    })
+}
+
 fn set(word: u64) -> Option<ServerSet> {
     u8::try_from(word).ok().map(ServerSet::from_bits)
 }
@@ -252,6 +306,10 @@ mod tests {
     };
     const SHORT_BUFFER: Refusal = Refusal::Call {
         ground: CallGround::Buffer,
+    };
+
+    const SHORT_FOR_PLAN: Refusal = Refusal::Call {
+        ground: CallGround::PlanBuffer,
     };
 
     const ONE_WAY: Refusal = Refusal::Call {
@@ -328,6 +386,44 @@ mod tests {
         assert_eq!(ran_or_refusal([2, 0, 5, 87]), Some(Err(OUT_OF_RANGE)));
         assert_eq!(ran_or_refusal([2, 1, 7, 4]), Some(Err(NOT_DUE)));
         assert_eq!(ran_or_refusal([2, 2, 13, 0]), Some(Err(FAULT_SET)));
+    }
+
+    #[test]
+    fn words_of_a_written_plan_become_the_answers_they_stand_for() {
+        for bytes in [14, 923, 1_048_576] {
+            let answer = written_or_refusal([0, bytes, 0, 0, 0, 0, 0, 0]);
+            assert_eq!(answer, Some(Ok(bytes as usize)));
+        }
+        let [f, l, c, r] = [1, 2, 0, 4].map(ServerSet::from_bits);
+        let bad = Unwritten::BadSplit(Split { f, l, c, r });
+        let answer = written_or_refusal([2, 2, 17, 0, 1, 2, 0, 4]);
+        assert_eq!(answer, Some(Err(bad)));
+        for (refusal, expected) in [([0, 5, 87], OUT_OF_RANGE), ([2, 18, 0], SHORT_FOR_PLAN)] {
+            let answer = written_or_refusal(refused(refusal));
+            assert_eq!(answer, Some(Err(Unwritten::Refused(expected))));
+        }
+    }
+
+    #[test]
+    fn words_of_separate_routes_become_the_answers_they_stand_for() {
+        for routes in 1..=3 {
+            let answer = separate_or_refusal([0, 1, routes, 0]);
+            let routes = routes as usize;
+            assert_eq!(answer, Some(Ok(Separate::Found { routes })));
+        }
+        for (servers, count) in [(0, 0), (1, 1), (128, 1), (3, 2), (192, 2)] {
+            let answer = separate_or_refusal([0, 0, servers, count]);
+            let servers = ServerSet::from_bits(servers as u8);
+            assert_eq!(answer, Some(Ok(Separate::Cut { servers })));
+        }
+        for (refusal, expected) in [
+            ([0, 5, 87], OUT_OF_RANGE),
+            ([2, 13, 0], FAULT_SET),
+            ([2, 14, 0], SHORT_BUFFER),
+        ] {
+            let answer = separate_or_refusal(refused(refusal));
+            assert_eq!(answer, Some(Err(expected)));
+        }
     }
 
     #[test]
@@ -527,6 +623,59 @@ mod tests {
             [2, 1, 256, 4],
         ] {
             assert_eq!(totals_or_refusal(answer), None, "{answer:?}");
+        }
+    }
+
+    #[test]
+    fn words_that_are_no_answer_of_the_plan_writer_are_noticed() {
+        for answer in [
+            [UNWRITTEN; 8],
+            [0, UNWRITTEN, 0, 0, 0, 0, 0, 0],
+            [0, 14, 0, 0, 0, 0, 0, UNWRITTEN],
+            [0, 13, 0, 0, 0, 0, 0, 0],
+            [0, 1_048_577, 0, 0, 0, 0, 0, 0],
+            [0, 14, 1, 0, 0, 0, 0, 0],
+            [1, 0, 1, 0, 2, 0, 0, 0],
+            [2, 0, 6, 87, 0, 0, 0, 0],
+            [2, 0, 5, 87, 1, 0, 0, 0],
+            [2, 0, 17, 0, 0, 1, 0, 2],
+            [2, 1, 7, 4, 0, 0, 0, 0],
+            [2, 2, 14, 0, 0, 0, 0, 0],
+            [2, 2, 17, 1, 0, 1, 0, 2],
+            [2, 2, 17, 0, 0, 1, 0, 256],
+            [2, 2, 18, 0, 0, 1, 0, 2],
+            [2, 2, 18, 1, 0, 0, 0, 0],
+            [2, 3, 18, 0, 0, 0, 0, 0],
+        ] {
+            assert_eq!(written_or_refusal(answer), None, "{answer:?}");
+        }
+    }
+
+    #[test]
+    fn words_that_are_no_answer_of_separate_routes_are_noticed() {
+        for answer in [
+            [UNWRITTEN; 4],
+            [0, UNWRITTEN, 2, 0],
+            [0, 1, UNWRITTEN, 0],
+            [0, 1, 2, UNWRITTEN],
+            [0, 1, 0, 0],
+            [0, 1, 4, 0],
+            [0, 1, 2, 1],
+            [0, 2, 2, 0],
+            [0, 0, 1, 0],
+            [0, 0, 1, 2],
+            [0, 0, 7, 3],
+            [0, 0, 256, 1],
+            [1, 0, 1, 1],
+            [2, 0, 6, 87],
+            [2, 1, 7, 4],
+            [2, 2, 12, 0],
+            [2, 2, 13, 1],
+            [2, 2, 17, 0],
+            [2, 2, 18, 0],
+            [2, 3, 13, 0],
+        ] {
+            assert_eq!(separate_or_refusal(answer), None, "{answer:?}");
         }
     }
 

@@ -1,7 +1,7 @@
 //! Safe functions over the proved agreement library, for networks of 2 to 8 servers of
 //! which at most 2 fail: the card reader, the card printed back, the split test, the quick
-//! test for two-way sites, the plan check, the load on each relay, the run, and a server's
-//! own part in a live network.
+//! test for two-way sites, the plan check, the plan writer and the separate routes that it
+//! finds, the load on each relay, the run, and a server's own part in a live network.
 //!
 //! The library is written and proved in Rattle and linked as a static archive; its
 //! contracts, not this crate, say why the answers are right. What is done here is to
@@ -43,10 +43,13 @@ mod library;
 mod own_part;
 mod refusal;
 mod servers;
+mod writer;
 
 pub use own_part::{ask, commit, start, Asked, Sending, Server, State, Turn, VALUES_LIMIT};
 pub use refusal::{CallGround, CardGround, PlanGround, Refusal};
 pub use servers::{Members, ServerSet};
+pub use writer::{plan_for, routes_for, separate_routes, write_plan};
+pub use writer::{Routes, Separate, Unwritten, ROUTES_LIMIT, ROUTE_BYTES};
 
 use answers::UNWRITTEN;
 use std::fmt::{self, Display, Formatter};

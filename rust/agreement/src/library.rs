@@ -35,6 +35,31 @@ extern "C" {
         answer: *mut [u64; 4],
     );
 
+    /// Writes {0, bytes, 0, 0, 0, 0, 0, 0} and the plan to the first lent bytes, {2, whose,
+    /// number, 0, F, L, C, R} for a bad split, or {2, whose, number, place, 0, 0, 0, 0} for
+    /// another refusal; where it refuses, no lent byte.
+    pub fn agreement_write_plan(
+        card: *const u8,
+        card_length: usize,
+        lent: *mut u8,
+        lent_length: usize,
+        answer: *mut [u64; 8],
+    );
+
+    /// Writes {0, 1, routes, 0} and the routes to the first lent bytes; or, and no lent byte,
+    /// {0, 0, servers, their number} where too few routes are separate, or {2, whose, number,
+    /// place} for a refusal.
+    pub fn agreement_separate_routes(
+        card: *const u8,
+        card_length: usize,
+        faults: u8,
+        sources: u8,
+        receiver: u8,
+        lent: *mut u8,
+        lent_length: usize,
+        answer: *mut [u64; 4],
+    );
+
     /// Writes {0, eight counts}, or {2, whose, number, place, 0, 0, 0, 0, 0} for a
     /// refusal.
     pub fn agreement_load(

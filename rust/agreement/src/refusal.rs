@@ -137,10 +137,12 @@ grounds! {
     /// Why a call is turned back.
     CallGround {
         Inputs = 12, "the inputs are not n bytes of 0 or 1 or, to start a server, its own input is above 1";
-        FaultSet = 13, "the faulty set has more than f servers, or one that is not in the network; or, for a server's own part, the server is not in the network, or its state is at no place of the plan or has a word out of range";
-        Buffer = 14, "the lent buffer has fewer than n bytes or, to print a card, fewer than the card to be written or, to ask, fewer than the values due";
+        FaultSet = 13, "the faulty set has more than f servers, or one that is not in the network; or, for separate routes, a source or the receiver is not in the network; or, for a server's own part, the server is not in the network, or its state is at no place of the plan or has a word out of range";
+        Buffer = 14, "the lent buffer has fewer than n bytes or, to print a card, fewer than the card to be written or, to ask, fewer than the values due or, for separate routes, fewer than the routes found";
         OneWay = 15, "some link has no return";
         OutOfTurn = 16, "an ask while one is open, or a commit while none is";
+        BadSplit = 17, "the network has a bad split";
+        PlanBuffer = 18, "the lent buffer is shorter than the plan to be written";
     }
 }
 
@@ -162,7 +164,7 @@ mod tests {
             let call = CallGround::of_number(number).map(CallGround::number);
             assert_eq!(
                 call.map(u64::from),
-                (12..=16).contains(&number).then_some(number)
+                (12..=18).contains(&number).then_some(number)
             );
         }
     }
@@ -184,7 +186,8 @@ mod tests {
         assert_eq!(
             of_call.to_string(),
             "refused call 14: the lent buffer has fewer than n bytes or, to print a card, fewer than \
-             the card to be written or, to ask, fewer than the values due"
+             the card to be written or, to ask, fewer than the values due or, for separate routes, \
+             fewer than the routes found"
         );
         assert_eq!((of_call.number(), of_call.place()), (14, None));
         let _: &dyn Error = &of_call;

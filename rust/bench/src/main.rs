@@ -10,8 +10,8 @@
 //! alike.
 //!
 //! Where `AGREEMENT_BEFORE` is the absolute path of an older libagreement.a, the same
-//! tables follow with that one in the reference's place, those of the quick test and of the
-//! load aside: an older archive need not have them.
+//! tables follow with that one in the reference's place, those of the quick test, of the load
+//! and of the plan writer aside: an older archive need not have them.
 
 #![cfg_attr(not(before), forbid(unsafe_code))]
 #![cfg_attr(before, deny(unsafe_code))]
@@ -24,6 +24,7 @@ mod clock;
 mod plans;
 mod quicks;
 mod runs;
+mod writes;
 
 use agreement::CLEAN_CARD_LIMIT;
 use clock::{nanoseconds_per_call, ROUNDS};
@@ -51,11 +52,15 @@ fn main() {
     for case in &plans {
         case.assert_answers();
     }
+    let writes = writes::cases();
+    for case in &writes {
+        case.assert_answers();
+    }
     let runs = runs::cases();
     for case in &runs {
         case.assert_answers();
     }
-    beside_reference(&cases, &quicks, &plans, &runs);
+    beside_reference(&cases, &quicks, &plans, &writes, &runs);
     #[cfg(before)]
     before::tables(&cases, &plans, &runs);
 }
@@ -64,6 +69,7 @@ fn beside_reference(
     cases: &[cards::Case],
     quicks: &[quicks::Case],
     plans: &[plans::Case],
+    writes: &[writes::Case],
     runs: &[runs::Case],
 ) {
     println!();
@@ -124,6 +130,16 @@ fn beside_reference(
             case.name,
             || agreement::check_plan(black_box(&case.card), black_box(&case.plan)),
             || reference::check_plan(black_box(&case.card), black_box(&case.plan)),
+        );
+    }
+    println!();
+    // Both make the split test first and choose the same A and S for every block.
+    heading("plan writer", "reference");
+    for case in writes {
+        row(
+            case.name,
+            || black_box(case).library(),
+            || black_box(case).reference(),
         );
     }
     println!();

@@ -2,7 +2,7 @@
 //! The two crates share no type: the wrapper stands alone, and so does the reference.
 
 use agreement::ServerSet;
-use reference::{Network, Quick, Refusal, Split, State, Totals};
+use reference::{Network, Quick, Refusal, Split, State, Totals, Unwritten};
 
 /// A mark for each pair of the eight servers that there can be, as the reference has it:
 /// a link that cannot be is a difference too.
@@ -28,6 +28,14 @@ pub fn quick(answer: Result<agreement::Quick, agreement::Refusal>) -> Result<Qui
 pub fn totals(answer: Result<agreement::Totals, agreement::Refusal>) -> Result<Totals, Refusal> {
     let agreement::Totals { blocks, carriages } = answer.map_err(refusal)?;
     Ok(Totals { blocks, carriages })
+}
+
+/// What the plan writer answers.
+pub fn written(answer: Result<usize, agreement::Unwritten>) -> Result<usize, Unwritten> {
+    answer.map_err(|unwritten| match unwritten {
+        agreement::Unwritten::BadSplit(bad) => Unwritten::BadSplit(split(bad)),
+        agreement::Unwritten::Refused(refused) => Unwritten::Refused(refusal(refused)),
+    })
 }
 
 /// The load on each relay, as the eight counts.

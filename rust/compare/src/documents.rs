@@ -41,6 +41,7 @@ mod site;
 mod steps;
 mod tables;
 mod words;
+mod writer;
 
 pub use held::not_held;
 pub use page::Held;
@@ -101,6 +102,8 @@ pub const GOOD: &[Check] = &[good::stated];
 pub const RUNS: &[Check] = &[steps::stated, runs::stated];
 /// The load on each relay.
 pub const LOAD: &[Check] = &[load::stated];
+/// The plan writer and separate routes.
+pub const WRITER: &[Check] = &[writer::stated];
 /// What a server does that knows only itself.
 pub const OWN_PART: &[Check] = &[own_part::stated];
 /// The words of the header's answers.
@@ -111,15 +114,15 @@ pub const PHRASES: &[Check] = &[phrases::stated, formulas::everywhere, formulas:
 /// All of them, those that take longest last.
 fn checks() -> Vec<Check> {
     [
-        PHRASES, LIMITS, BYTES, BLOCKS, LENGTHS, CASES, GOOD, RUNS, LOAD, OWN_PART, REFUSALS,
-        NAMES, WORDS, SITE, EXAMPLES,
+        PHRASES, LIMITS, BYTES, BLOCKS, LENGTHS, CASES, GOOD, RUNS, LOAD, WRITER, OWN_PART,
+        REFUSALS, NAMES, WORDS, SITE, EXAMPLES,
     ]
     .concat()
 }
 
 /// The limits that the checks go by are those that the library and `rehearse` keep.
 ///
-/// Panics where they are not, as do the four below.
+/// Panics where they are not, as do the five below.
 pub fn library_keeps_the_limits() {
     calls::lengths_are_kept();
     calls::servers_are_the_first_n();
@@ -145,6 +148,11 @@ pub fn library_takes_the_lengths() {
 /// The order in which the checks list what a server's calls refuse is that of the library.
 pub fn library_refuses_servers_in_order() {
     own_part::refusals_are_in_order();
+}
+
+/// The lengths of the buffers that the checks give as always enough are so for the library.
+pub fn library_writes_into_the_limits() {
+    writer::limits_are_enough();
 }
 
 /// The steps that the checks go through decide as it does.

@@ -89,6 +89,45 @@ impl<T: Plain> Display for Outcome<T> {
     }
 }
 
+/// Makes a call that may write any byte, with so many bytes lent, and hands its answer back with
+/// the bytes that it wrote, the first `count` of the lent ones.
+///
+/// It is made twice, over a pattern and over one that differs from it in every byte, so that a
+/// byte shows that is written where none should be, or left where one should stand. What is wrong
+/// then is the error.
+pub(crate) fn written<T: PartialEq>(
+    lent: usize,
+    count: impl Fn(&T) -> usize,
+    call: impl Fn(&mut [u8]) -> T,
+) -> Result<(T, Vec<u8>), &'static str> {
+    let before = pattern(lent);
+    let turned: Vec<u8> = before.iter().map(|byte| !byte).collect();
+    let made = |before: &[u8]| {
+        let mut memory = before.to_vec();
+        let answer = call(&mut memory[MARGIN..MARGIN + lent]);
+        (answer, memory)
+    };
+    let ((answer, memory), (again, other)) = (made(&before), made(&turned));
+    if answer != again {
+        return Err("the answer depends on what was in the lent bytes");
+    }
+    let count = count(&answer);
+    if count > lent {
+        return Err("more bytes were written than are lent");
+    }
+    let (written, after) = (MARGIN..MARGIN + count, MARGIN + count..);
+    if memory[..MARGIN] != before[..MARGIN] || other[..MARGIN] != turned[..MARGIN] {
+        return Err("a byte before the lent ones was written");
+    }
+    if memory[after.clone()] != before[after.clone()] || other[after.clone()] != turned[after] {
+        return Err("a byte was written past those of the answer");
+    }
+    if memory[written.clone()] != other[written.clone()] {
+        return Err("a byte of the answer was left as it was");
+    }
+    Ok((answer, memory[written].to_vec()))
+}
+
 /// A call that both implementations answer.
 pub(crate) trait Call: Display {
     type Answer: Plain + PartialEq;

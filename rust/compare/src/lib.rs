@@ -17,6 +17,10 @@
 //! Of a load, the counts have to add up to the relaying places of the plan's bytes, and the
 //! plan check has to refuse the same plans.
 //!
+//! Of a plan that is written, both may choose their routes; its length and the sets of its blocks
+//! are compared, and the library's own plan check has to accept it ([`writes`]). In the same way
+//! separate routes are held to their rules ([`routes`]).
+//!
 //! A server's own part is compared call by call, and the library has to be one with itself:
 //! servers stepped side by side, each on its own, end with what the run decides.
 //!
@@ -44,10 +48,12 @@ pub mod plans;
 pub mod prints;
 pub mod quicks;
 pub mod rehearsals;
+pub mod routes;
 pub mod runs;
 pub mod servers;
 pub mod shows;
 mod text;
+pub mod writes;
 
 use planned::planned;
 

@@ -79,6 +79,12 @@ fn the_load_is_as_stated() {
 }
 
 #[test]
+fn plans_and_routes_are_written_as_stated() {
+    documents::library_writes_into_the_limits();
+    hold(documents::WRITER);
+}
+
+#[test]
 fn a_server_s_own_part_goes_as_stated() {
     documents::library_refuses_servers_in_order();
     hold(documents::OWN_PART);

@@ -125,6 +125,25 @@ pub fn sparse_card(rng: &mut Rng, n: u8) -> Vec<u8> {
     card_of(n, 0, &links)
 }
 
+/// A valid card of `n` servers and `f` faults whose network has no bad split, and would have one
+/// without any of its links: from all there can be, links are left out in a random order, each
+/// unless that makes a split bad. `None` if `n` is not over 3`f`, as there is no such network then.
+pub fn bare_card(rng: &mut Rng, n: u8, f: u8) -> Option<Vec<u8>> {
+    let is_good = |links: &[(u8, u8)]| split_test(&card_of(n, f, links)) == Ok(None);
+    let mut links = all_links(n);
+    if !is_good(&links) {
+        return None;
+    }
+    rng.shuffle(&mut links);
+    for _ in 0..links.len() {
+        let link = links.remove(0);
+        if !is_good(&links) {
+            links.push(link);
+        }
+    }
+    Some(card_of(n, f, &links))
+}
+
 /// The card of `n` servers and `f` faults with every link there can be.
 pub fn complete_card(n: u8, f: u8) -> Vec<u8> {
     card_of(n, f, &all_links(n))
@@ -477,6 +496,24 @@ mod tests {
             assert!(read_card(&card).is_ok());
         }
         assert_eq!(link_count(&network_card_with(&mut rng, 2, 0, 9)), 2);
+    }
+
+    #[test]
+    fn bare_cards_can_lack_no_link() {
+        let mut rng = Rng::new(10);
+        for n in 2..=6u8 {
+            for f in 0..=2u8 {
+                let card = bare_card(&mut rng, n, f);
+                assert_eq!(card.is_some(), n > 3 * f, "n {n} f {f}");
+                let Some(card) = card else { continue };
+                assert_eq!(split_test(&card), Ok(None));
+                for link in 1..=link_count(&card) {
+                    let mut less = card.clone();
+                    less.drain(COMMAND_SIZE * link..COMMAND_SIZE * (link + 1));
+                    assert!(matches!(split_test(&less), Ok(Some(_))), "n {n} f {f}");
+                }
+            }
+        }
     }
 
     #[test]

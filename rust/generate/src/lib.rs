@@ -23,7 +23,7 @@ mod two_way;
 
 pub use calls::{aimed_table, faulty, inputs, lent, table, AIMS};
 pub use cards::{
-    all_links, card, card_of, complete_card, good_card, network_card, network_card_with,
+    all_links, bare_card, card, card_of, complete_card, good_card, network_card, network_card_with,
     sparse_card,
 };
 pub use carriages::{carriages, Carriage};

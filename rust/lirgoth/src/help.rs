@@ -4,6 +4,8 @@ pub const ALL: &str = "\
 lirgoth: a site's network, its plan and its drills, for the installer
 
   lirgoth card CHART [--hex | --site SITE]   the card of a link chart
+  lirgoth plan CHART --site SITE             card and plan of a link chart
+  lirgoth plan SITE                          a plan for the card
   lirgoth chart SITE                         the link chart of a card
   lirgoth print SITE [--hex]                 the card, clean: each link once, in order
   lirgoth explain SITE                       can the offices agree, is the plan accepted,
@@ -11,6 +13,8 @@ lirgoth: a site's network, its plan and its drills, for the installer
   lirgoth check SITE                         is the plan accepted: if so, the offices can
                                              agree, and no other check is needed
   lirgoth load SITE                          how many routes each office relays
+  lirgoth cut SITE --from A,B --to C         separate routes between offices, or who is
+                                             in their way
   lirgoth drill SITE --inputs 11010          a run without a run.in
   lirgoth drill SITE --every                 every set of failing offices, every kind of lie
   lirgoth picture SITE                       the network as an SVG picture
@@ -44,6 +48,34 @@ A chart is plain text:
 
 A link given again, as for twin cables, is one link, and the card has it once. Each
 mistake is named by its line.
+";
+
+pub const PLAN: &str = "\
+lirgoth plan CHART --site SITE [--replace]
+lirgoth plan SITE [--replace]
+
+Writes a route plan: that of a link chart into the folder SITE as network.plan, with the
+card and the chart beside it as by the verb card; or that of SITE/network.card. The plan
+check accepts it, and no plan that it accepts for this network is shorter.
+  --site SITE  the folder for card, chart and plan; it is made where it is not there
+  --replace    writes over a network.plan that is there and is another plan; else it is
+               left as it is, and the status is 2
+
+Where the network has a bad split no plan can help. Then none is written, and the split is
+told as by explain.
+";
+
+pub const CUT: &str = "\
+lirgoth cut SITE --from OFFICES --to OFFICE [--without OFFICES]
+
+Shows routes from some offices of SITE/network.card to one that share nothing but this one:
+f+1 of them if f may fail, each from an office of its own. Where there are not so many, it
+shows the offices, at most f, of which every route meets one. An office that a route comes
+from counts as met.
+  --from OFFICES     where routes may begin, by number or name with commas between: 2 or
+                     0,Oslo
+  --to OFFICE        where they end
+  --without OFFICES  at most f offices that no route may meet, as those that fail
 ";
 
 pub const CHART: &str = "\

@@ -1,5 +1,5 @@
-//! The installer's program: a site's chart, card and picture, its network and plan in
-//! words, the plan check alone, the load on its relays, and drills.
+//! The installer's program: a site's chart, card, plan and picture, its network and plan in
+//! words, the plan check alone, the load on its relays, separate routes, and drills.
 //!
 //! ```text
 //! cargo run --release -p lirgoth -- --help
@@ -12,6 +12,7 @@ mod apart;
 mod args;
 mod chart;
 mod check;
+mod cut;
 mod drill;
 mod explain;
 mod help;
@@ -21,6 +22,7 @@ mod names;
 mod picture;
 mod plan;
 mod planned;
+mod planner;
 mod progress;
 mod refused;
 mod site;

@@ -8,7 +8,7 @@ mod plan;
 use crate::names::Names;
 use crate::site::Run;
 use crate::words::{counted, grouped};
-use agreement::{CallGround, Network, Refusal};
+use agreement::{CallGround, Network, Refusal, ServerSet};
 
 /// `refused card 5 at byte 3: ..`, for a card that the library refuses with `refusal`.
 pub fn card(refusal: Refusal, card: &[u8]) -> String {
@@ -35,6 +35,16 @@ pub fn run(refusal: Refusal, network: &Network, names: &Names, run: &Run) -> Str
         _ => None,
     };
     sentence(refusal, why)
+}
+
+/// The same for separate routes that leave out these offices.
+pub fn routes(refusal: Refusal, network: &Network, names: &Names, faulty: ServerSet) -> String {
+    let call = Run {
+        faulty,
+        inputs: Vec::new(),
+        table: Vec::new(),
+    };
+    run(refusal, network, names, &call)
 }
 
 /// The library's own words stand in where the bytes say no more.
@@ -84,8 +94,11 @@ fn why_call(ground: CallGround, network: &Network, names: &Names, run: &Run) -> 
         }
         // The buffers of this program have room for every network.
         CallGround::Buffer => None,
-        // A run asks for no link's return, and takes its own turns.
-        CallGround::OneWay | CallGround::OutOfTurn => None,
+        // A run asks for no link's return, takes its own turns and writes no plan.
+        CallGround::OneWay
+        | CallGround::OutOfTurn
+        | CallGround::BadSplit
+        | CallGround::PlanBuffer => None,
     }
 }
 

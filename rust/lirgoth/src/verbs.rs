@@ -6,15 +6,19 @@ use crate::apart::apart;
 use crate::args::{Args, Known};
 use crate::chart::{self, Chart};
 use crate::check;
+use crate::cut::{self, Way};
 use crate::drill::{self, all_inputs, Drilled};
 use crate::explain;
 use crate::help;
 use crate::lies::Lies;
 use crate::load;
+use crate::names::Names;
 use crate::picture::{self, Mark};
+use crate::planner;
 use crate::progress::Progress;
 use crate::refused;
 use crate::site::{self, Site, Unreadable, CARD, CHART, PLAN, RUN};
+use crate::words::{accepted, counted};
 use agreement::{Load, Network, Refusal, ServerSet, CLEAN_CARD_LIMIT};
 use std::fs;
 use std::io::{self, IsTerminal};
@@ -31,12 +35,18 @@ pub fn find(name: &str) -> Option<&'static Verb> {
     VERBS.iter().find(|verb| verb.name == name)
 }
 
-const VERBS: [Verb; 11] = [
+const VERBS: [Verb; 13] = [
     Verb {
         name: "card",
         help: help::CARD,
         known: &[("--hex", None), ("--site", Some("a folder"))],
         run: card,
+    },
+    Verb {
+        name: "plan",
+        help: help::PLAN,
+        known: &[("--site", Some("a folder")), ("--replace", None)],
+        run: plan,
     },
     Verb {
         name: "chart",
@@ -67,6 +77,16 @@ const VERBS: [Verb; 11] = [
         help: help::LOAD,
         known: &[],
         run: |args| on_site(args, |site| load::load(&site)),
+    },
+    Verb {
+        name: "cut",
+        help: help::CUT,
+        known: &[
+            ("--from", Some("offices")),
+            ("--to", Some("an office")),
+            ("--without", Some("offices")),
+        ],
+        run: cut,
     },
     Verb {
         name: "drill",
@@ -133,26 +153,117 @@ fn card(args: &Args) -> Result<Answer, String> {
     if hex && site.is_some() {
         return Err("--hex and --site do not go together".to_string());
     }
-    let bytes = match site::read(path) {
-        Ok(bytes) => bytes,
-        Err(why) => return Ok(unreadable(why)),
+    let Charted { bytes, card, .. } = match charted(path) {
+        Ok(charted) => charted,
+        Err(answer) => return Ok(answer),
     };
-    let chart = match chart::read(&bytes) {
-        Ok(chart) => chart,
-        Err(mistakes) => {
-            let mut answer = Answer::default().refused();
-            let named = |mistake| format!("{}, {mistake}", path.display());
-            answer.notes = mistakes.iter().map(named).collect();
-            return Ok(answer);
-        }
-    };
-    let card = chart::card(&chart.network);
-    debug_assert_eq!(agreement::read_card(&card), Ok(chart.network));
     if let Some(folder) = site {
         let stored = store(Path::new(folder), &card, &bytes);
         return Ok(stored.map_or_else(unreadable, Answer::of));
     }
     put_out(card, hex, "--hex or --site")
+}
+
+/// A chart, and the card made from it.
+struct Charted {
+    bytes: Vec<u8>,
+    names: Names,
+    card: Vec<u8>,
+}
+
+/// The chart in a file, or the answer that names its mistakes.
+fn charted(path: &Path) -> Result<Charted, Answer> {
+    let bytes = site::read(path).map_err(unreadable)?;
+    let Chart { network, names } = chart::read(&bytes).map_err(|mistakes| {
+        let mut answer = Answer::default().refused();
+        let named = |mistake| format!("{}, {mistake}", path.display());
+        answer.notes = mistakes.iter().map(named).collect();
+        answer
+    })?;
+    let card = chart::card(&network);
+    debug_assert_eq!(agreement::read_card(&card), Ok(network));
+    Ok(Charted { bytes, names, card })
+}
+
+fn plan(args: &Args) -> Result<Answer, String> {
+    let path = args.path("CHART or SITE")?;
+    let (replace, folder) = (args.has("--replace"), args.value("--site").map(Path::new));
+    let planned = match folder {
+        None if path.is_file() => {
+            return Err(format!(
+                "{} is a chart, and --site is missing: the folder that its card and plan go into",
+                path.display()
+            ))
+        }
+        Some(_) if path.is_dir() => {
+            return Err(format!(
+                "--site goes with a chart, and {} is a folder",
+                path.display()
+            ))
+        }
+        None => Site::open(path).and_then(|site| plan_site(&site, replace)),
+        Some(folder) => plan_chart(path, folder, replace),
+    };
+    Ok(planned.unwrap_or_else(unreadable))
+}
+
+/// A plan for the site's card, written beside it.
+fn plan_site(site: &Site, replace: bool) -> Result<Answer, Unreadable> {
+    let card = site.card()?;
+    let mut note = None;
+    let names = |network: &Network| {
+        let (names, said) = site.names(network);
+        note = said;
+        names
+    };
+    match planner::plan_for(&card, names) {
+        Ok(plan) => {
+            planner::may_write(site, &plan, replace)?;
+            store_plan(site, &card, &plan)
+        }
+        Err(mut refused) => {
+            refused.notes.extend(note);
+            Ok(refused)
+        }
+    }
+}
+
+/// Card, chart and plan of a chart into a site's folder. Where there is no plan, none of them.
+fn plan_chart(path: &Path, folder: &Path, replace: bool) -> Result<Answer, Unreadable> {
+    let Charted { bytes, names, card } = match charted(path) {
+        Ok(charted) => charted,
+        Err(answer) => return Ok(answer),
+    };
+    let plan = match planner::plan_for(&card, |_| names) {
+        Ok(plan) => plan,
+        Err(refused) => return Ok(refused),
+    };
+    if folder.exists() {
+        planner::may_write(&Site::open(folder)?, &plan, replace)?;
+    }
+    let stored = store(folder, &card, &bytes)?;
+    let mut answer = store_plan(&Site::open(folder)?, &card, &plan)?;
+    answer.out.splice(0..0, stored.into_bytes());
+    Ok(answer)
+}
+
+/// The plan into the site's folder, and what the plan check says of it.
+fn store_plan(site: &Site, card: &[u8], plan: &[u8]) -> Result<Answer, Unreadable> {
+    let mut answer = Answer::default();
+    let totals = match agreement::check_plan(card, plan) {
+        Ok(totals) => totals,
+        // The library accepts what it writes; nothing else is to be stored.
+        Err(refusal) => {
+            answer.line(&refusal.to_string());
+            return Ok(answer.refused());
+        }
+    };
+    let path = site.path(PLAN);
+    write(&path, plan)?;
+    let bytes = counted(plan.len(), "byte");
+    answer.line(&format!("{} written, {bytes}", path.display()));
+    answer.line(&accepted(totals));
+    Ok(answer)
 }
 
 /// The card as bytes, or in hexadecimal if that is asked for. A terminal has no use for
@@ -290,6 +401,44 @@ fn load_of(site: &Site, card: &[u8]) -> (Option<Load>, Option<String>) {
     }
 }
 
+fn cut(args: &Args) -> Result<Answer, String> {
+    let folder = args.path("SITE")?;
+    for option in ["--from", "--to"] {
+        if !args.has(option) {
+            return Err(format!("{option} is missing"));
+        }
+    }
+    let opened = Site::open(folder).and_then(|site| {
+        let card = site.card()?;
+        Ok((site, card))
+    });
+    let (site, card) = match opened {
+        Ok(opened) => opened,
+        Err(why) => return Ok(unreadable(why)),
+    };
+    let network = match agreement::read_card(&card) {
+        Ok(network) => network,
+        Err(refusal) => {
+            let mut answer = Answer::default();
+            answer.line(&refused::card(refusal, &card));
+            return Ok(answer.refused());
+        }
+    };
+    let (names, note) = site.names(&network);
+    let named = |option| offices(option, args.text(option)?, &network, &names);
+    let (from, to) = (named("--from")?, named("--to")?);
+    let Some(to) = to.iter().next().filter(|_| to.len() == 1) else {
+        return Err(format!("--to names {} offices, and wants one", to.len()));
+    };
+    if from.is_empty() {
+        return Err("--from names no office".to_string());
+    }
+    let without = named("--without")?;
+    let mut answer = cut::cut(&card, &network, &names, Way { from, to, without });
+    answer.notes.extend(note);
+    Ok(answer)
+}
+
 fn drill(args: &Args) -> Result<Answer, String> {
     let folder = args.path("SITE")?;
     let inputs = args.text("--inputs")?;
@@ -321,7 +470,8 @@ fn drill(args: &Args) -> Result<Answer, String> {
         .transpose()?;
     let mut answer = match inputs {
         Some(inputs) if !every => {
-            let faulty = offices(args.text("--faulty")?, &drilled)?;
+            let Drilled { network, names, .. } = &drilled;
+            let faulty = offices("--faulty", args.text("--faulty")?, network, names)?;
             one_drill(
                 &site,
                 &drilled,
@@ -399,22 +549,27 @@ fn bits(text: &str, n: u8) -> Result<Vec<u8>, String> {
     Ok(bits)
 }
 
-/// `2`, `0,Oslo` or `none`.
-fn offices(text: Option<&str>, drilled: &Drilled) -> Result<ServerSet, String> {
+/// `2`, `0,Oslo` or `none`, the value of this option.
+fn offices(
+    option: &str,
+    text: Option<&str>,
+    network: &Network,
+    names: &Names,
+) -> Result<ServerSet, String> {
     let Some(text) = text.filter(|text| *text != "none") else {
         return Ok(ServerSet::EMPTY);
     };
-    let all = drilled.network.servers();
+    let all = network.servers();
     let found = |called: &str| {
         let by_name = all
             .iter()
-            .find(|&office| drilled.names.name(office) == Some(called));
+            .find(|&office| names.name(office) == Some(called));
         let by_number = called.parse().ok().filter(|&office| all.contains(office));
         let found = by_name.or(by_number);
         found.ok_or_else(|| {
             format!(
-                "--faulty has \"{called}\", and offices are 0 to {} or their names",
-                drilled.network.n - 1
+                "{option} has \"{called}\", and offices are 0 to {} or their names",
+                network.n - 1
             )
         })
     };

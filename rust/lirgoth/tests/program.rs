@@ -1,6 +1,9 @@
 //! The program as an installer runs it: what it prints, and its status.
 
-use generate::{all_pairs, card_of, complete_card, network_card, two_way_card_of, with_twins, Rng};
+use generate::{
+    all_pairs, bare_card, card_of, complete_card, good_card, network_card, two_way_card_of,
+    with_twins, Rng,
+};
 use std::fs;
 use std::path::{Path, PathBuf};
 use std::process::{Command, Output};
@@ -266,29 +269,50 @@ fn from_a_chart_typed_by_hand_to_a_card_and_a_picture() {
     );
 }
 
-/// The chart that README.md has an installer type, and the plan that it goes on with.
+fn readme() -> String {
+    let path = Path::new(env!("CARGO_MANIFEST_DIR")).join("../../README.md");
+    fs::read_to_string(path).expect("it is there")
+}
+
+/// The chart of README.md that begins with this comment.
+fn chart_of_readme(comment: &str) -> String {
+    let readme = readme();
+    let lines = readme
+        .lines()
+        .map(|line| line.strip_prefix("       ").unwrap_or_default());
+    let chart = lines
+        .skip_while(|line| *line != comment)
+        .take_while(|line| !line.is_empty());
+    chart.map(|line| format!("{line}\n")).collect()
+}
+
+/// What README.md has an installer type, step by step.
 #[test]
 fn the_installers_way_of_the_readme() {
-    let readme = Path::new(env!("CARGO_MANIFEST_DIR")).join("../../README.md");
-    let readme = fs::read_to_string(readme).expect("it is there");
+    let readme = readme();
     let tanker = fs::read_to_string(example("tanker") + "/expected/explain.txt");
     let tanker = tanker.expect("stored words");
     assert!(readme.contains(tanker.lines().last().expect("a refusal in words")));
     let check = out(&["check", &example("dry-bulk")], ANSWERED);
     let check: String = check.lines().map(|line| format!("    {line}\n")).collect();
     assert!(readme.contains(&check), "{check}");
-    let lines = readme
-        .lines()
-        .map(|line| line.strip_prefix("       ").unwrap_or_default());
-    let chart = lines
-        .skip_while(|line| *line != "# dry-bulk desk")
-        .take_while(|line| !line.is_empty());
-    let chart = chart.collect::<Vec<&str>>().join("\n");
+    let chart = chart_of_readme("# dry-bulk desk");
     let folder = Folder::with(&[("desk.chart", chart.as_bytes())]);
     let (chart, site) = (folder.shown("desk.chart"), folder.shown("desk"));
     out(&["card", &chart, "--site", &site], ANSWERED);
-    let plan = example("dry-bulk") + "/network.plan";
-    fs::copy(plan, folder.path("desk/network.plan")).expect("the folder can be written to");
+    let planned = out(&["plan", &site], ANSWERED);
+    let accepted = "plan accepted: 50 blocks and 400 carriages\n";
+    assert!(planned.ends_with(accepted), "{planned}");
+    assert!(readme.contains("       blocks 50 carriages 400\n"));
+    let way = [
+        "--from",
+        "Geneva,Lima",
+        "--to",
+        "Dakar",
+        "--without",
+        "Pusan",
+    ];
+    out(&[&["cut", &site][..], &way].concat(), ANSWERED);
     let load = out(&["load", &site], ANSWERED);
     let load: String = load
         .lines()
@@ -301,6 +325,309 @@ fn the_installers_way_of_the_readme() {
     out(&drill, ANSWERED);
     assert!(out(&["explain", &site], ANSWERED)
         .ends_with("office 4 (Dakar) entered open and shows closed\n"));
+}
+
+/// The first two of the three commands of README.md; the third is `rehearse`, which tools/examples
+/// runs on the same three files.
+#[test]
+fn from_a_chart_typed_by_hand_to_decided_bits_in_three_commands() {
+    let readme = readme();
+    for command in [
+        "lirgoth plan eastward.chart --site eastward",
+        "lirgoth drill eastward --faulty Tokyo --inputs 110010 --write",
+        "rehearse eastward",
+    ] {
+        assert!(readme.contains(&format!("    sh tools/{command}\n")));
+    }
+    let chart = chart_of_readme("# eastward");
+    let folder = Folder::with(&[("eastward.chart", chart.as_bytes())]);
+    let (chart, site) = (folder.shown("eastward.chart"), folder.shown("eastward"));
+    let planned = out(&["plan", &chart, "--site", &site], ANSWERED);
+    assert_eq!(
+        planned,
+        format!(
+            "{site}/network.card written, 58 bytes\n\
+             {site}/network.plan written, 10,025 bytes\n\
+             plan accepted: 121 blocks and 1,210 carriages\n"
+        )
+    );
+    let drill = [
+        "drill", &site, "--faulty", "Tokyo", "--inputs", "110010", "--write",
+    ];
+    let drilled = out(&drill, ANSWERED);
+    let shows = |line: &&str| line.ends_with(" and shows closed");
+    assert_eq!(drilled.lines().filter(shows).count(), 5, "{drilled}");
+    // It is the example, file by file.
+    for name in ["network.chart", "network.card", "network.plan", "run.in"] {
+        let [made, stored] = [
+            folder.path("eastward").join(name),
+            Path::new(&example("eastward")).join(name),
+        ]
+        .map(|path| fs::read(path).expect("it is there"));
+        assert_eq!(made, stored, "{name}");
+    }
+}
+
+/// Every office hears as few others as it can: with any link left out a split is bad.
+#[test]
+fn eastward_can_lack_no_link() {
+    let card = fs::read(example("eastward") + "/network.card").expect("it is there");
+    assert_eq!(agreement::split_test(&card), Ok(None));
+    for place in (3..card.len() - 1).step_by(3) {
+        let less = [&card[..place], &card[place + 3..]].concat();
+        assert!(matches!(agreement::split_test(&less), Ok(Some(_))));
+    }
+}
+
+#[test]
+fn a_plan_is_written_for_every_site_without_a_bad_split() {
+    let mut rng = Rng::new(9);
+    for (n, f) in [(2, 0), (4, 0), (8, 0), (4, 1), (6, 1), (7, 2)] {
+        for card in [bare_card(&mut rng, n, f), good_card(&mut rng, n, f)] {
+            let card = card.expect("n is over 3f");
+            let site = Folder::with(&[("network.card", &card)]);
+            let own = site.0.display().to_string();
+            let printed = out(&["plan", &own], ANSWERED);
+            let plan = fs::read(site.path("network.plan")).expect("it was written");
+            assert_eq!(agreement::plan_for(&card), Ok(plan));
+            let written = format!("{own}/network.plan written, ");
+            assert!(printed.starts_with(&written), "{printed}");
+            assert!(printed.contains("\nplan accepted: "), "{printed}");
+            let checked = out(&["check", &own], ANSWERED);
+            assert!(checked.starts_with("plan accepted: "), "{checked}");
+            // Once more: the same plan is no other one.
+            assert_eq!(out(&["plan", &own], ANSWERED), printed);
+        }
+    }
+}
+
+#[test]
+fn a_bad_split_is_named_in_the_place_of_a_plan() {
+    // Lima and Pusan hear Oslo alone.
+    let chart = "offices Geneva, Oslo, Lima, Pusan\nmay fail 1\n\
+                 Geneva <-> Oslo\nOslo <-> Lima, Pusan\nLima <-> Pusan\n";
+    let folder = Folder::with(&[("desk.chart", chart.as_bytes())]);
+    let (chart, site) = (folder.shown("desk.chart"), folder.shown("desk"));
+    let refused = out(&["plan", &chart, "--site", &site], REFUSED);
+    let lines: Vec<&str> = refused.lines().collect();
+    assert_eq!(lines[0], "refused call 17: the network has a bad split");
+    assert!(lines[1].starts_with("bad split (F none, L 0"), "{refused}");
+    assert!(lines[1].contains("(Geneva)"), "{refused}");
+    assert!(refused.ends_with("and no plan can help\n"), "{refused}");
+    assert!(!folder.path("desk").exists(), "nothing is written");
+
+    // The same of a card, with the names of the chart beside it.
+    out(&["card", &chart, "--site", &site], ANSWERED);
+    assert_eq!(out(&["plan", &site], REFUSED), refused);
+    assert!(!folder.path("desk/network.plan").exists());
+    let explained = out(&["explain", &site], REFUSED);
+    assert!(explained.contains(lines[1]), "{explained}");
+
+    let regions = out(&["plan", &example("two-regions")], REFUSED);
+    assert!(
+        regions.contains("\nbad split (F none, L 1 2, C 0 3, R 4 5): "),
+        "{regions}"
+    );
+}
+
+#[test]
+fn another_plan_is_written_over_only_where_that_is_asked_for() {
+    let site = copy_of("dry-bulk");
+    let own = site.0.display().to_string();
+    let bought = fs::read(site.path("network.plan")).expect("it is there");
+    let (printed, error) = said(&["plan", &own], UNUSABLE);
+    assert_eq!(printed, "");
+    assert_eq!(
+        error,
+        format!(
+            "lirgoth: {own}/network.plan is there already, and is another plan: add --replace to \
+             write over it\n"
+        )
+    );
+    assert_eq!(
+        fs::read(site.path("network.plan")).expect("it is there"),
+        bought
+    );
+    out(&["plan", &own, "--replace"], ANSWERED);
+    let card = fs::read(site.path("network.card")).expect("it is there");
+    let written = fs::read(site.path("network.plan")).expect("it is there");
+    assert_eq!(agreement::plan_for(&card), Ok(written));
+
+    // From a chart, the card is left as it is too.
+    fs::write(site.path("network.plan"), &bought).expect("the folder can be written to");
+    let chart = Folder::with(&[("new.chart", b"offices 2\nmay fail 0\n0 -> 1\n")]);
+    let new = [
+        "plan",
+        &chart.shown("new.chart"),
+        "--site",
+        &own,
+        "--replace",
+    ];
+    said(&new[..4], UNUSABLE);
+    assert_eq!(
+        fs::read(site.path("network.card")).expect("it is there"),
+        card
+    );
+    let replaced = out(&new, ANSWERED);
+    assert_eq!(
+        replaced,
+        format!(
+            "{own}/network.card written, 7 bytes\n{own}/network.plan written, 14 bytes\n\
+             plan accepted: 1 block and 1 carriage\n"
+        )
+    );
+}
+
+#[test]
+fn a_chart_or_a_site_without_its_card_has_no_plan() {
+    let folder = Folder::with(&[
+        ("bad.chart", b"offices 3\nmay fail 1\n0 -> 3\n"),
+        ("good.chart", CHART.as_bytes()),
+    ]);
+    let own = folder.0.display().to_string();
+    let site = folder.shown("site");
+    let [bad, good, nothing] =
+        ["bad.chart", "good.chart", "nothing.chart"].map(|name| folder.shown(name));
+    let (_, error) = said(&["plan", &bad, "--site", &site], REFUSED);
+    assert!(
+        error.contains("line 3: there is no office \"3\""),
+        "{error}"
+    );
+    let (_, error) = said(&["plan", &nothing, "--site", &site], UNUSABLE);
+    assert!(error.contains("nothing.chart is missing"), "{error}");
+    let (_, error) = said(&["plan", &good], UNUSABLE);
+    assert!(
+        error.contains("is a chart, and --site is missing"),
+        "{error}"
+    );
+    let (_, error) = said(&["plan", &own, "--site", &site], UNUSABLE);
+    assert!(error.contains("--site goes with a chart"), "{error}");
+    let (_, error) = said(&["plan", &good, "--site", &bad], UNUSABLE);
+    assert!(
+        error.contains("is a file, and a site is a folder"),
+        "{error}"
+    );
+    assert!(!folder.path("site").exists());
+}
+
+/// A row of routes, each from source to receiver.
+fn told_routes(text: &str) -> Vec<Vec<&str>> {
+    let lines = text.lines().filter_map(|line| line.strip_prefix("  "));
+    lines.map(|line| line.split(" → ").collect()).collect()
+}
+
+#[test]
+fn separate_routes_are_shown_by_the_names_of_offices() {
+    let site = example("eastward");
+    let cut = |from: &str, to: &str, without: &str| {
+        let args = [
+            "cut",
+            &site,
+            "--from",
+            from,
+            "--to",
+            to,
+            "--without",
+            without,
+        ];
+        out(&args, ANSWERED)
+    };
+    // Houston hears Tokyo, Vancouver and Singapore.
+    let shown = cut("Singapore,Vancouver", "Houston", "none");
+    assert_eq!(
+        shown,
+        "2 routes from offices 2 (Singapore), 4 (Vancouver) to office 5 (Houston), that share \
+         nothing but the last:\n  Singapore → Houston\n  Vancouver → Houston\n"
+    );
+    let shown = cut("London,Dubai", "Houston", "Tokyo");
+    let first =
+        "2 routes from offices 0 (London), 1 (Dubai) to office 5 (Houston), without office 3 \
+                 (Tokyo), that share nothing but the last:\n";
+    assert!(shown.starts_with(first), "{shown}");
+    let routes = told_routes(&shown);
+    let mut met: Vec<&str> = Vec::new();
+    for route in &routes {
+        assert_eq!(route.last(), Some(&"Houston"), "{shown}");
+        met.extend(&route[..route.len() - 1]);
+    }
+    let count = met.len();
+    met.sort_unstable();
+    met.dedup();
+    assert_eq!((routes.len(), met.len()), (2, count), "{shown}");
+    assert!(!met.contains(&"Tokyo"), "{shown}");
+    // Numbers do as well, and without --without none is left out.
+    let by_number = ["cut", &site, "--to", "5", "--from", "2,4"];
+    assert_eq!(
+        out(&by_number, ANSWERED),
+        cut("Singapore,Vancouver", "Houston", "none")
+    );
+}
+
+#[test]
+fn offices_that_every_route_meets_are_shown_by_their_names() {
+    let told = |site: &str, way: &[&str]| out(&[&["cut", site][..], way].concat(), ANSWERED);
+    assert_eq!(
+        told(
+            &example("eastward"),
+            &["--from", "London", "--to", "Houston"]
+        ),
+        "fewer than 2 separate routes from office 0 (London) to office 5 (Houston): every route \
+         meets office 0 (London)\n"
+    );
+    // One link leads from each region to the other.
+    assert_eq!(
+        told(&example("two-regions"), &["--from", "0,1,2", "--to", "3"]),
+        "fewer than 2 separate routes from offices 0 1 2 to office 3: every route meets office 0\n"
+    );
+    // The ship cannot reply.
+    assert_eq!(
+        told(&example("ship"), &["--from", "MV Alma", "--to", "Houston"]),
+        "no route from office 4 (MV Alma) to office 2 (Houston)\n"
+    );
+}
+
+#[test]
+fn ways_that_cannot_be_asked_for() {
+    let site = example("eastward");
+    let refused = out(
+        &[
+            "cut",
+            &site,
+            "--from",
+            "0",
+            "--to",
+            "5",
+            "--without",
+            "London,Tokyo",
+        ],
+        REFUSED,
+    );
+    assert_eq!(
+        refused,
+        "refused call 13: offices 0 (London), 3 (Tokyo) are to fail, and at most 1 may\n"
+    );
+    for (args, why) in [
+        (&["--to", "5"][..], "--from is missing"),
+        (&["--from", "0"], "--to is missing"),
+        (&["--from", "none", "--to", "5"], "--from names no office"),
+        (
+            &["--from", "0", "--to", "4,5"],
+            "--to names 2 offices, and wants one",
+        ),
+        (
+            &["--from", "0,Oslo", "--to", "5"],
+            "--from has \"Oslo\", and offices are 0 to 5 or their names",
+        ),
+        (&["--from", "0", "--to", "6"], "--to has \"6\""),
+        (
+            &["--from", "0", "--to", "5", "--without", "7"],
+            "--without has \"7\"",
+        ),
+    ] {
+        let (printed, error) = said(&[&["cut", &site][..], args].concat(), UNUSABLE);
+        assert_eq!(printed, "");
+        assert!(error.contains(why), "{args:?}: {error}");
+    }
 }
 
 #[test]
@@ -324,6 +651,7 @@ fn mistakes_in_a_chart_are_named_by_their_lines() {
 fn the_example_sites_in_words() {
     for (site, status) in [
         ("dry-bulk", ANSWERED),
+        ("eastward", ANSWERED),
         ("patched", ANSWERED),
         ("ship", ANSWERED),
         ("shore", ANSWERED),
@@ -1026,13 +1354,17 @@ fn a_refused_call_is_told_in_words() {
 fn files_that_cannot_be_read_are_named() {
     let folder = Folder::new();
     let own = folder.0.display().to_string();
-    for verb in ["explain", "check", "chart", "print", "load", "picture"] {
+    for verb in [
+        "explain", "check", "chart", "plan", "print", "load", "picture",
+    ] {
         let (_, error) = said(&[verb, &own], UNUSABLE);
         assert_eq!(error, format!("lirgoth: {own}/network.card is missing\n"));
         let nowhere = folder.shown("nowhere");
         let (_, error) = said(&[verb, &nowhere], UNUSABLE);
         assert!(error.contains(&format!("{nowhere} is missing")), "{error}");
     }
+    let (_, error) = said(&["cut", &own, "--from", "0", "--to", "1"], UNUSABLE);
+    assert_eq!(error, format!("lirgoth: {own}/network.card is missing\n"));
     fs::create_dir(folder.path("network.card")).expect("the folder can be written to");
     let (_, error) = said(&["explain", &own], UNUSABLE);
     assert_eq!(
@@ -1061,6 +1393,8 @@ fn a_refused_card_is_told_by_every_verb() {
         &["print", &own],
         &["load", &own],
         &["picture", &own],
+        &["plan", &own],
+        &["cut", &own, "--from", "0", "--to", "1"],
         &["drill", &own, "--every"],
     ] {
         let (printed, error) = said(args, REFUSED);
@@ -1086,7 +1420,7 @@ fn a_chart_of_another_network_gives_no_names() {
 fn help_and_bad_usage() {
     let help = out(&["--help"], ANSWERED);
     for verb in [
-        "card", "chart", "print", "explain", "check", "load", "drill", "picture",
+        "card", "plan", "chart", "print", "explain", "check", "load", "cut", "drill", "picture",
     ] {
         assert!(help.contains(&format!("  lirgoth {verb} ")), "{verb}");
         let own = out(&[verb, "--help"], ANSWERED);

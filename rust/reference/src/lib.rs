@@ -10,7 +10,9 @@
 //! blocks of an accepted plan and answers with the bit each sound server decides.
 //! *A server's own part* is the same for a server that knows only itself: it asks what
 //! to send, commits what arrived, and ends with the bit that the run gives it. The
-//! *load* of an accepted plan is how many of its routes each server relays.
+//! *load* of an accepted plan is how many of its routes each server relays. The *plan
+//! writer* makes a plan, a shortest one, for every network without a bad split; the
+//! *separate routes* that a plan is made of can be asked for by themselves.
 //!
 //! A set of servers is one byte throughout, server `i` standing for `1 << i`.
 //!
@@ -26,10 +28,12 @@ mod print;
 mod quick;
 mod refusal;
 mod rehearse;
+mod routes;
 mod run;
 mod server;
 mod sets;
 mod split;
+mod write;
 
 #[cfg(test)]
 mod sample;
@@ -41,6 +45,8 @@ pub use print::print_card;
 pub use quick::{quick_test, Quick};
 pub use refusal::Refusal;
 pub use rehearse::rehearse;
+pub use routes::{separate_routes, smallest_cut};
 pub use run::{run, values_by_block};
 pub use server::{ask, commit, side_by_side, start, State};
 pub use split::{split_test, Split};
+pub use write::{shortest_plan, write_plan, Unwritten};

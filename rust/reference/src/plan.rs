@@ -8,7 +8,7 @@ use crate::sets::{contains, is_within, members, singleton, subsets};
 const PLAN_LIMIT: usize = 1_048_576;
 
 /// Command bytes of the plan.
-const BLOCK: u8 = 0x10;
+pub(crate) const BLOCK: u8 = 0x10;
 pub(crate) const ROUTE_TO_S: u8 = 0x11;
 pub(crate) const ROUTE_WITHIN_S: u8 = 0x12;
 pub(crate) const ROUTE_FROM_S: u8 = 0x13;
@@ -18,13 +18,13 @@ pub(crate) const END: u8 = 0x15;
 /// A route operand has room for every server once.
 pub(crate) const ROUTE_OPERAND: usize = MAX_SERVERS;
 /// The byte that fills up a route of fewer than eight servers.
-const FILL: u8 = 0xff;
+pub(crate) const FILL: u8 = 0xff;
 
 /// Bytes that each command takes, operands included.
 pub(crate) const BLOCK_SIZE: usize = 4;
 pub(crate) const ROUTE_SIZE: usize = 1 + ROUTE_OPERAND;
 pub(crate) const NEIGHBOURS_SIZE: usize = 3;
-const END_SIZE: usize = 1;
+pub(crate) const END_SIZE: usize = 1;
 
 /// How much an accepted plan holds.
 #[derive(Debug, Clone, Copy, PartialEq, Eq)]
@@ -68,26 +68,29 @@ pub(crate) fn route_servers(operand: &[u8]) -> &[u8] {
 
 /// What a block must be about: the fault set F and one way of cutting V - F.
 #[derive(Debug, Clone, Copy, PartialEq, Eq)]
-struct BlockDue {
-    fault_set: u8,
+pub(crate) struct BlockDue {
+    pub fault_set: u8,
     /// The part of V - F that holds its lowest server.
-    lowest_part: u8,
+    pub lowest_part: u8,
     /// The other part.
-    other_part: u8,
+    pub other_part: u8,
 }
 
 /// The blocks of a plan for `network` in their order: by F, then by the part that
 /// holds the lowest server of V - F.
-fn blocks_due(network: &Network) -> impl Iterator<Item = BlockDue> {
+pub(crate) fn blocks_due(network: &Network) -> impl Iterator<Item = BlockDue> {
     let servers = network.servers();
+    fault_sets(network).flat_map(move |fault_set| partitions(servers, fault_set))
+}
+
+/// The sets F of at most f servers, ascending as numbers.
+pub(crate) fn fault_sets(network: &Network) -> impl Iterator<Item = u8> {
     let allowance = u32::from(network.f);
-    subsets(servers)
-        .filter(move |fault_set| fault_set.count_ones() <= allowance)
-        .flat_map(move |fault_set| partitions(servers, fault_set))
+    subsets(network.servers()).filter(move |fault_set| fault_set.count_ones() <= allowance)
 }
 
 /// The ways of cutting V - F into two parts that are not empty.
-fn partitions(servers: u8, fault_set: u8) -> impl Iterator<Item = BlockDue> {
+pub(crate) fn partitions(servers: u8, fault_set: u8) -> impl Iterator<Item = BlockDue> {
     let outside_f = servers & !fault_set;
     let lowest = outside_f & outside_f.wrapping_neg();
     subsets(outside_f)

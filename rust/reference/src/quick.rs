@@ -65,23 +65,23 @@ fn least_taken_away(network: &Network) -> u8 {
 
 /// A server has two sides: routes come in at its entry side, cross over, and go out
 /// at its leaving side. A set of sides has one bit for each.
-const SIDES: usize = 2 * MAX_SERVERS;
+pub(crate) const SIDES: usize = 2 * MAX_SERVERS;
 
-fn entry(server: u8) -> usize {
+pub(crate) fn entry(server: u8) -> usize {
     usize::from(server)
 }
 
-fn leaving(server: u8) -> usize {
+pub(crate) fn leaving(server: u8) -> usize {
     usize::from(server) + MAX_SERVERS
 }
 
 /// The set that holds just `side`, which is below [`SIDES`].
-fn single(side: usize) -> u16 {
+pub(crate) fn single(side: usize) -> u16 {
     1 << side
 }
 
 /// The members of `set`, ascending.
-fn sides(mut set: u16) -> impl Iterator<Item = usize> {
+pub(crate) fn sides(mut set: u16) -> impl Iterator<Item = usize> {
     std::iter::from_fn(move || {
         if set == 0 {
             return None;

@@ -11,7 +11,10 @@ pub enum Refusal {
     Card { number: u8, place: usize },
     /// The route plan is at fault (numbers 1 to 3 and 7 to 11).
     Plan { number: u8, place: usize },
-    /// The rest of the call is at fault (numbers 12 to 16).
+    /// The rest of the call is at fault (numbers 12 to 16 and 18). Number 17 hands a
+    /// split back with it, see [`Unwritten`].
+    ///
+    /// [`Unwritten`]: crate::Unwritten
     Call { number: u8 },
 }
 
@@ -54,4 +57,8 @@ pub(crate) mod ground {
     /// Call: out of turn, that is a second ask while one is open, or a commit with
     /// none open.
     pub const OUT_OF_TURN: u8 = 16;
+    /// Call: the network has a bad split, so that no plan can be written.
+    pub const BAD_SPLIT: u8 = 17;
+    /// Call: the plan to be written is longer than the lent buffer.
+    pub const PLAN_TOO_LONG: u8 = 18;
 }

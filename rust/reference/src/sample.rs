@@ -34,6 +34,37 @@ pub(crate) fn twin_card(card: &[u8]) -> Vec<u8> {
     [&card[..3], links, links, &[0x03]].concat()
 }
 
+/// Numbers that look drawn at random and are the same in every test.
+pub(crate) struct Draw(u64);
+
+impl Draw {
+    pub(crate) fn new(seed: u64) -> Draw {
+        Draw(seed)
+    }
+
+    /// The next number, below `limit`.
+    pub(crate) fn below(&mut self, limit: u64) -> u64 {
+        self.0 = self
+            .0
+            .wrapping_mul(6364136223846793005)
+            .wrapping_add(1442695040888963407);
+        (self.0 >> 33) % limit
+    }
+}
+
+/// A card on which each link stands with `tenths` chances in ten.
+pub(crate) fn random_card(n: u8, f: u8, tenths: u64, draw: &mut Draw) -> Vec<u8> {
+    let mut links = Vec::new();
+    for u in 0..n {
+        for v in (0..n).filter(|&v| v != u) {
+            if draw.below(10) < tenths {
+                links.push((u, v));
+            }
+        }
+    }
+    card(n, f, &links)
+}
+
 /// Which set S the blocks of [`direct_plan`] use.
 #[derive(Clone, Copy)]
 pub(crate) enum Quorum {

@@ -22,7 +22,8 @@ pub fn split_test(card: &[u8]) -> Result<Option<Split>, Refusal> {
     Ok(first_bad_split(&read_card(card)?))
 }
 
-fn first_bad_split(network: &Network) -> Option<Split> {
+/// The split test on a card that has been read already.
+pub(crate) fn first_bad_split(network: &Network) -> Option<Split> {
     let servers = network.servers();
     let allowance = u32::from(network.f);
     let incoming = network.incoming();

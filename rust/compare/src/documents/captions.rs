@@ -9,7 +9,7 @@ use super::plans::{plan, shortest, MORE_THAN_F};
 use super::rehearsal::{rehearsed, Files};
 use super::{refusals, Documents};
 use agreement::{check_plan, read_card, CallGround, CardGround, PlanGround, Refusal, ServerSet};
-use generate::{all_links, complete_card, places};
+use generate::{all_links, card_of, complete_card, places};
 
 /// The sentences that go with the examples of a section; `None` if the examples are not
 /// of the kind that the sentences speak of.
@@ -25,9 +25,11 @@ pub fn stated(documents: &Documents) -> Held {
         "Carriages, and what the plan check answers",
         carriages,
     )?;
+    hold(page, "The plan writer", written_plan)?;
+    hold(page, "Separate routes", separate)?;
     hold(page, "The load on each relay", load)?;
     hold(page, "A server's own part", own_part)?;
-    let captions: [(u8, Caption); 9] = [
+    let captions: [(u8, Caption); 10] = [
         (CardGround::Range.number(), out_of_range),
         (PlanGround::NotDue.number(), not_due),
         (PlanGround::Quorum.number(), quorum),
@@ -37,6 +39,7 @@ pub fn stated(documents: &Documents) -> Held {
         (CallGround::Inputs.number(), inputs),
         (CallGround::FaultSet.number(), faulty_set),
         (CallGround::OutOfTurn.number(), out_of_turn),
+        (CallGround::PlanBuffer.number(), short_for_plan),
     ];
     for (number, caption) in captions {
         hold(page, refusals::title(page, number)?, caption)?;
@@ -64,6 +67,9 @@ fn written() -> Vec<String> {
     vec![
         format!("`FF x 6` stands for {times} times {byte}."),
         format!("`buffer 1` means that the library's run is called with {lent} byte lent"),
+        "`write 20` means that the plan writer is called with 20 bytes lent,".to_string(),
+        "`routes 00 03 2` that separate routes are asked, with no faulty server, from {0, 1} to server 2,"
+            .to_string(),
         "`start 1 00` is the start of server 1 with input 0;".to_string(),
         "`ask 1` and `commit 1 00` are its ask, with room for all values, and its commit of the arrival 0,"
             .to_string(),
@@ -129,6 +135,63 @@ fn carriages(examples: &[Example]) -> Option<Vec<String>> {
     Some(vec![format!(
         "In this plan A is {a} and S is {s}, so that {due} are due:"
     )])
+}
+
+/// The plan of one block and one link.
+fn written_plan(examples: &[Example]) -> Option<Vec<String>> {
+    let [example] = examples else { return None };
+    let card = &example.files.card;
+    let network = read_card(card).ok()?;
+    let plan = agreement::plan_for(card).ok()?;
+    let [HEAD, _, _, LINK, u, v, CARD_END] = card[..] else {
+        return None;
+    };
+    let [_, s] = opened(&plan)?;
+    let one_block = places(&plan, &[BLOCK]).len() == 1;
+    let (servers, f) = (capital(word(usize::from(network.n))), network.f);
+    let length = plan.len();
+    one_block.then(|| {
+        vec![format!(
+            "{servers} servers, f {f}, and a link from {u} to {v}. The only block has S {s}, and its plan \
+             has {length} bytes:"
+        )]
+    })
+}
+
+/// One byte is missing.
+fn short_for_plan(examples: &[Example]) -> Option<Vec<String>> {
+    let [example] = examples else { return None };
+    let (card, lent) = (&example.files.card, example.lent_to_writer()?);
+    let (n, length) = (*card.get(1)?, agreement::plan_for(card).ok()?.len());
+    let servers = word(usize::from(n));
+    (lent + 1 == length).then(|| {
+        vec![format!(
+            "The plan of {servers} servers has {length} bytes, and {lent} are lent:"
+        )]
+    })
+}
+
+/// Four servers, of which the first and the second are the sources, and then the first alone.
+fn separate(examples: &[Example]) -> Option<Vec<String>> {
+    let [found, met] = examples else { return None };
+    let network = read_card(&found.files.card).ok()?;
+    let links = [(0, 1), (0, 2), (1, 3), (2, 3)];
+    let same = read_card(&card_of(4, 1, &links)) == Ok(network)
+        && found.files.card == met.files.card
+        && found.way()?.receiver == met.way()?.receiver;
+    let (servers, f) = (capital(word(usize::from(network.n))), network.f);
+    let routes = capital(word(usize::from(f) + MORE_THAN_F));
+    let (from, receiver) = (members(found.way()?.sources), found.way()?.receiver);
+    let only = met.way()?.sources.iter().next()?;
+    same.then(|| {
+        vec![
+            format!(
+                "{servers} servers, f {f}, with links from 0 to 1 and 2, and from 1 and 2 to 3. {routes} \
+                 routes from {from} to {receiver} are separate;"
+            ),
+            format!("all routes from {only} alone begin there:"),
+        ]
+    })
 }
 
 /// A row of servers, in which the first is the S of every block.
@@ -336,9 +399,10 @@ fn inputs(examples: &[Example]) -> Option<Vec<String>> {
 }
 
 fn faulty_set(examples: &[Example]) -> Option<Vec<String>> {
-    let [of_run, no_server, no_block] = examples else {
+    let [of_run, no_server, no_block, no_route] = examples else {
         return None;
     };
+    let (n, receiver) = (no_route.files.card.get(1)?, no_route.way()?.receiver);
     let faulty = listed(ServerSet::from_bits(*of_run.files.run_in.first()?));
     let f = of_run.files.card.get(2)?;
     let server = no_server.own_call()?.server;
@@ -346,8 +410,8 @@ fn faulty_set(examples: &[Example]) -> Option<Vec<String>> {
     let (block, blocks) = (no_block.state.block, check_plan(card, plan).ok()?.blocks);
     let blocks = word(blocks);
     Some(vec![format!(
-        "Server {faulty} is to be faulty, and f is {f}; there is no server {server} to start; and no \
-         block {block}, where the plan has {blocks} block:"
+        "Server {faulty} is to be faulty, and f is {f}; there is no server {server} to start; no block \
+         {block}, where the plan has {blocks} block; and no route to server {receiver}, where n is {n}:"
     )])
 }
 

@@ -7,6 +7,7 @@ use super::own_calls::{self, Call};
 use super::page::{Held, Page};
 use super::quick;
 use super::rehearsal::{ran, rehearsed, Files};
+use super::writer::{self, Way};
 use super::Documents;
 use agreement::State;
 use std::collections::BTreeSet;
@@ -34,6 +35,10 @@ enum Asked {
     Run(usize),
     QuickTest,
     Load,
+    /// The plan writer, with so many bytes lent.
+    Write(usize),
+    /// Separate routes.
+    Routes(Way),
     /// A call for a single server.
     Own(Call),
 }
@@ -69,6 +74,8 @@ fn example(page: &Page, lines: Range<usize>) -> Result<Example, String> {
             "buffer" => *asked = Asked::Run(number(rest).ok_or_else(|| fault(no_count(rest)))?),
             "quick" if rest == "test" => *asked = Asked::QuickTest,
             "load" if rest.is_empty() => *asked = Asked::Load,
+            "write" => *asked = Asked::Write(number(rest).ok_or_else(|| fault(no_count(rest)))?),
+            "routes" => *asked = Asked::Routes(writer::way(rest).map_err(fault)?),
             "state" => *state = own_calls::state(rest).map_err(fault)?,
             "start" | "ask" | "commit" => {
                 *asked = Asked::Own(own_calls::call(first, rest).map_err(fault)?);
@@ -123,9 +130,27 @@ impl Example {
             Asked::Run(lent) => ran(&self.files, *lent),
             Asked::QuickTest => quick::answered(&self.files.card),
             Asked::Load => load::answered(&self.files),
+            Asked::Write(lent) => writer::written(&self.files.card, *lent),
+            Asked::Routes(way) => writer::routed(&self.files.card, way),
             Asked::Own(call) => own_calls::answered(&self.files, self.state, call),
         };
         text.lines().map(str::to_string).collect()
+    }
+
+    /// How many bytes the plan writer is lent, if it is asked.
+    pub fn lent_to_writer(&self) -> Option<usize> {
+        match self.asked {
+            Asked::Write(lent) => Some(lent),
+            _ => None,
+        }
+    }
+
+    /// The way that separate routes are asked for, if they are.
+    pub fn way(&self) -> Option<&Way> {
+        match &self.asked {
+            Asked::Routes(way) => Some(way),
+            _ => None,
+        }
     }
 
     /// The call for a single server, if it is one.
@@ -142,7 +167,11 @@ impl Example {
         let ["refused", file, number, ..] = words[..] else {
             return None;
         };
-        Some((File::named(file)?, number.parse().ok()?))
+        // A comma follows the number where more is said.
+        Some((
+            File::named(file)?,
+            number.trim_end_matches(',').parse().ok()?,
+        ))
     }
 }
 

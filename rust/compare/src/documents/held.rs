@@ -98,8 +98,9 @@ fn excused(page: &Page) -> BTreeSet<usize> {
 }
 
 /// How the lines of an example begin that say what is asked.
-const GIVEN: [&str; 9] = [
-    "card", "plan", "run.in", "buffer", "load", "state", "start", "ask", "commit",
+const GIVEN: [&str; 11] = [
+    "card", "plan", "run.in", "buffer", "load", "write", "routes", "state", "start", "ask",
+    "commit",
 ];
 
 /// Whether the line is of the bytes of an example: these are no statement, but what the

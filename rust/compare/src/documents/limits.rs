@@ -9,6 +9,7 @@ use super::own_part::MOST_VALUES;
 use super::page::Held;
 use super::plans::{plan, shortest};
 use super::rehearsal::LENT;
+use super::writer::MOST_ROUTES;
 use super::Documents;
 use crate::rehearsals::FILE_LIMIT;
 use agreement::{check_plan, CallGround, CardGround};
@@ -43,6 +44,12 @@ pub fn stated(documents: &Documents) -> Held {
              which is {}.",
             *CLEAN_LIMIT, *MOST_VALUES
         ),
+        format!(
+            "Separate routes take `AGREEMENT_ROUTES`, which is {}, times `AGREEMENT_ROUTE_BYTES`, \
+             which is {operand}, at most.",
+            *MOST_ROUTES
+        ),
+        format!("lend `AGREEMENT_PLAN_LIMIT` bytes, which is {plan} and always enough."),
         format!("A route operand is {operand} bytes: source first"),
         format!("then {fill} up to the {eighth} byte, the fill."),
         format!("{} servers have no fill.", capital(word(operand))),
@@ -65,6 +72,14 @@ fn rows() -> Vec<Vec<String>> {
         "at least the values due; {} are always enough",
         *MOST_VALUES
     );
+    let written = format!(
+        "at least the bytes of the plan; {} are always enough",
+        grouped(*PLAN_LIMIT)
+    );
+    let routes = format!(
+        "at least {operand} bytes for each route found; {} are always enough",
+        operand * *MOST_ROUTES
+    );
     let rows = [
         ["servers n; servers that may fail, f", &sizes],
         ["card", &card],
@@ -77,6 +92,8 @@ fn rows() -> Vec<Vec<String>> {
         ["message table", "any number of bytes, or none"],
         ["lent buffer of a run", "at least n bytes"],
         ["lent buffer to print a card", &clean],
+        ["lent buffer of the plan writer", &written],
+        ["lent buffer of separate routes", &routes],
         ["a server's own input", "0 or 1"],
         ["lent buffer of an ask", &values],
         ["what arrived, for a commit", "any number of bytes, or none"],
@@ -122,12 +139,22 @@ pub fn in_header(documents: &Documents) -> Held {
         format!("agreement_run never refuses {buffer} for a buffer of so many bytes."),
         format!("agreement_print_card never refuses {buffer} for a buffer of so many bytes."),
         format!("longer ones are refused {length}."),
+        format!(
+            "agreement_write_plan never refuses {} for a buffer of so many bytes.",
+            CallGround::PlanBuffer.number()
+        ),
+        format!(
+            "The most f+1: agreement_separate_routes never refuses {buffer} for a buffer of so many routes."
+        ),
+        format!("its servers from source to receiver, then {FILL:02X}."),
     ])?;
     for (name, value) in [
         ("AGREEMENT_SERVERS", usize::from(n.most())),
         ("AGREEMENT_CLEAN_CARD_LIMIT", *CLEAN_LIMIT),
         ("AGREEMENT_CARD_LIMIT", *CARD_LIMIT),
         ("AGREEMENT_PLAN_LIMIT", *PLAN_LIMIT),
+        ("AGREEMENT_ROUTE_BYTES", route_operand()),
+        ("AGREEMENT_ROUTES", *MOST_ROUTES),
     ] {
         let found = header::name(page, name)?;
         if found.value != value {

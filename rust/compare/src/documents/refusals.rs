@@ -6,6 +6,7 @@ use super::library::*;
 use super::numbers::{self, quoted, row};
 use super::own_part::{self, MOST_VALUES, OF_ASK, OF_COMMIT, OF_START};
 use super::page::{Held, Page};
+use super::writer;
 use super::Documents;
 use agreement::{check_plan, read_card, CallGround};
 use generate::card_of;
@@ -79,6 +80,8 @@ pub fn listed(documents: &Documents) -> Held {
     let of_ask = row(own_part::numbers(OF_ASK));
     let of_commit = row(own_part::numbers(OF_COMMIT));
     let [buffer, one_way] = [CallGround::Buffer, CallGround::OneWay].map(CallGround::number);
+    let of_writer = row(writer::OF_WRITER.map(CallGround::number));
+    let of_routes = row(writer::OF_ROUTES.map(CallGround::number));
     let count = grounds::numbers().len();
     let of_card = Span::over("a card's refusal", &File::Card.numbers());
     let of_run_in = [CallGround::Inputs, CallGround::FaultSet].map(CallGround::number);
@@ -89,7 +92,8 @@ pub fn listed(documents: &Documents) -> Held {
         format!("none of {of_run_in}."),
         format!(
             "then the call: {of_run} of a run, {buffer} of a card that is printed, {one_way} of the quick \
-             test, {of_start} of a start, {of_ask} of an ask, {of_commit} of a commit."
+             test, {of_writer} of the plan writer, {of_routes} of separate routes, {of_start} of a start, \
+             {of_ask} of an ask, {of_commit} of a commit."
         ),
         format!("{} is no longer given:", row(grounds::no_longer_given())),
         format!("In the order of the table: {card} in a card; {plan} in a plan."),

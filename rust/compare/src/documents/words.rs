@@ -6,7 +6,7 @@
 
 use super::header::name;
 use super::library::{HEAD, SIZES};
-use super::numbers::word;
+use super::numbers::{row, word};
 use super::page::{Held, Page};
 use super::runs::{FAULTY, SILENCE};
 use super::Documents;
@@ -15,12 +15,14 @@ use agreement::CallGround;
 /// What the wrapper declares, and calls.
 const DECLARED: &str = include_str!("../../../agreement/src/library.rs");
 
-const FUNCTIONS: [&str; 10] = [
+const FUNCTIONS: [&str; 12] = [
     "agreement_read_card",
     "agreement_print_card",
     "agreement_split_test",
     "agreement_quick_test",
     "agreement_check_plan",
+    "agreement_write_plan",
+    "agreement_separate_routes",
     "agreement_load",
     "agreement_run",
     "agreement_start",
@@ -70,7 +72,8 @@ fn same_words(page: &Page, function: &str, ours: &str, theirs: &str) -> Result<u
 
 pub fn stated(documents: &Documents) -> Held {
     let page = &documents.header;
-    let [reader, _, split, _, check, load, _, start, ask, _] = lengths(page)?;
+    let [reader, _, split, _, check, write, routes, load, _, start, ask, _] = lengths(page)?;
+    assert_eq!(routes, check, "words of the shortest answers");
     let state = state_length(page)?;
     let of = |which: &str| name(page, which).map(|name| name.value);
     let answered = of("AGREEMENT_ANSWERED")?;
@@ -84,9 +87,10 @@ pub fn stated(documents: &Documents) -> Held {
     let zeros = vec!["0"; split - 1].join(", ");
     let silence = *SILENCE;
     page.says_all(&[
-        format!("`answer` points to {check}, {split}, {start}, {ask}, {load} or {reader} words"),
+        format!("`answer` points to {check}, {split}, {start}, {ask}, {write}, {load} or {reader} words"),
         format!("`state` points to {state} words, which it only reads."),
         "a call's refusal has place 0.".to_string(),
+        format!("then zeros but for {}, which has F, L, C, R", CallGround::BadSplit.number()),
         format!("answer: {answered}, n, f, 0 and {eight} rows."),
         format!("Row u, the word answer[{before_rows} + u],"),
         "and it is 0 where u is no server.".to_string(),
@@ -101,6 +105,27 @@ pub fn stated(documents: &Documents) -> Held {
         format!("or {refused}, AGREEMENT_CARD, number, place, 0."),
         format!("answer: {answered}, blocks, carriages, 0 exactly if it does;"),
         format!("or {refused}, AGREEMENT_CARD or AGREEMENT_PLAN, number, place."),
+        // Of the plan writer, as many words as its declaration has.
+        format!("answer: {answered}, bytes, {}. Then the first `bytes` bytes", row(vec![0; write - 2])),
+        format!(
+            "Or answer: {refused}, AGREEMENT_CALL, {}, 0, F, L, C, R exactly if agreement_split_test \
+             answers {bad_split}, F, L, C, R;",
+            CallGround::BadSplit.number()
+        ),
+        format!(
+            "or {refused}, what is at fault, number, place, {}: the card's refusal or,",
+            row(vec![0; write - check])
+        ),
+        format!("no split is bad, {} if `lent` is shorter than the plan.", CallGround::PlanBuffer.number()),
+        // Of separate routes.
+        format!("answer: {answered}, 1, f+1, 0 if there are so many routes."),
+        format!("Else answer: {answered}, 0, servers, count."),
+        format!(
+            "Or answer: {refused}, what is at fault, number, place: the card's refusal; {} where `faults` \
+             has more than f servers,",
+            CallGround::FaultSet.number()
+        ),
+        format!("or {buffer} where there are f+1 routes and `lent` is shorter than they are."),
         format!("answer: {answered} and {eight} counts. The word answer[{before_counts} + i] is the number of"),
         "and it is 0 where i is no server.".to_string(),
         format!(
