@@ -6,8 +6,8 @@
 --     answered-..    what is said of n, f and links is said of the card that was read
 -- Assumes nothing.
 use mathlib.Core.Path.{_≡_, refl, sym, ap, _∙_}
-use mathlib.Core.Bool.{Bool, true, false, cond}
-use mathlib.Core.List.{List, [], _++_}
+use mathlib.Core.Bool.{Bool, true, false}
+use mathlib.Core.List.{List, _++_}
 use Prim.Native.Nat.{ℕ, _+_, _*_, _≤_, _<_}
 use native.Mathlib.Omega.{arith}
 use lib.Dec.{ltb}
@@ -21,7 +21,7 @@ use Rattle.refusal.specs.Refused.{refusalOf, call}
 use Rattle.refusal.specs.declared.Refusal.{Refusal}
 use Rattle.sets.specs.Sets.{minus, full, size}
 use Rattle.network.specs.Links.{Links, linkedIn}
-use Rattle.network.specs.Card.{network, readCard, head, turned, headOf, linksAfter}
+use Rattle.network.specs.Card.{readCard, head, turned, headOf, linksAfter}
 use Rattle.network.specs.Rows.{rowsOf}
 use Rattle.network.specs.Proper.{Proper}
 use Rattle.network.proofs.Heads.{network-is, refused-of}
@@ -34,7 +34,7 @@ use Rattle.flow.specs.Routes.{Separated, routes, cut, routesOf, cutOf, separate
 use Rattle.flow.specs.Theorems.{Found, CutOff, sought}
 use Rattle.flow.proofs.Finding.{finds}
 use Rattle.flow.proofs.Cutting.{cuts}
-use Rattle.routes.specs.Routing.{Routing, routed, cutOff, unrouted, callFits, operands, answerTo, answerFor, routeInto, operandsOf, afterRoutes, routedIn}
+use Rattle.routes.specs.Routing.{routed, cutOff, unrouted, callFits, operands, answerTo, answerFor, routeInto, operandsOf, afterRoutes, routedIn}
 use Rattle.routes.specs.Answers.{routingOf, Answered}
 use Rattle.routes.specs.declared.Routed.{Routed}
 use Rattle.routes.proofs.Laying.{operands-long, routes-long, routes-many}

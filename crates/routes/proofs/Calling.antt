@@ -4,7 +4,7 @@
 --     near-is         the servers with a link to r, taken from the sources or from the rows
 --     search-is       the search of the code is the search of the definition
 -- Assumes nothing.
-use mathlib.Core.Path.{_≡_, sym, ap, _∙_}
+use mathlib.Core.Path.{_≡_, _∙_}
 use mathlib.Core.Bool.{Bool, true, false, _&&_}
 use mathlib.Core.List.{List}
 use Prim.Native.Nat.{ℕ, _+_, _≤_, _<_, min}

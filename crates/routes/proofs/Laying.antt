@@ -3,24 +3,24 @@
 --     bytes-..                       the loop over the bytes of a route: to lay the bytes left over what is there gives the whole
 --     routes-..                      the loop over the starts of a flow: to lay the routes left over what is there gives the whole
 -- Assumes nothing.
-use mathlib.Core.Path.{_≡_, refl, sym, ap, _∙_}
+use mathlib.Core.Path.{_≡_, refl, ap, _∙_}
 use mathlib.Core.Bool.{Bool, true, false, cond}
 use mathlib.Core.List.{List, [], _∷_, _++_, map, List·Memᴰ·head, List·Memᴰ·tail, Memᴰ·of-map}
-use Prim.Native.Nat.{ℕ, zero, suc, _+_, _-_, _*_, _≤_, _<_}
+use Prim.Native.Nat.{ℕ, suc, _+_, _-_, _*_, _≤_, _<_}
 use native.Mathlib.Numerals.{add-one}
 use native.Mathlib.Omega.{arith}
 use lib.ListN.{length, getD, set, drop, replicate, length-set, length-append, length-map, length-replicate}
 use lib.Seq.{drop-cons, drop-length}
 use Rattle.facts.specs.Lists.{Each}
 use Rattle.facts.specs.Laid.{laid}
-use Rattle.facts.proofs.Bools.{cases}
 use Rattle.facts.proofs.Stores.{laid-append, length-laid}
-use Rattle.sets.specs.Sets.{has, size, lowest}
+use Rattle.sets.specs.Sets.{has, size}
 use Rattle.plan.specs.Members.{listFrom, members}
 use Rattle.rules.specs.Blocks.{Route, operand}
 use Rattle.rules.proofs.Lists.{length-members}
 use Rattle.flow.specs.declared.Flow.{Flow}
 use Rattle.flow.specs.Routes.{trail, routesOf}
+use Rattle.separate.proofs.Laying.{trail-long}
 use Rattle.routes.specs.Routing.{operands}
 
 -- lengths
@@ -42,15 +42,8 @@ operands-long (p ∷ ps) h =
     omega arith
 
 module _ (φ : Flow) (r : ℕ) where
-  trail-long : (k x : ℕ) → length (trail φ r k x) ≤ suc k
-  unfolding trail
-  trail-long zero x = omega arith
-  trail-long (suc k) x =
-      let ih = trail-long k (lowest (getD (φ .out) x 0)) in
-      cases (has (φ .ends) x) (λ e. rw e (omega arith)) (λ e. rw e (omega arith))
-
   pub operand-long : (x : ℕ) → length (operand (trail φ r 7 x)) ≡ 8
-  operand-long x = operand-eight (trail φ r 7 x) (trail-long 7 x)
+  operand-long x = operand-eight (trail φ r 7 x) (trail-long φ r 7 x)
 
   pub routes-many : length (routesOf φ r) ≡ size (φ .start)
   unfolding routesOf
@@ -59,7 +52,7 @@ module _ (φ : Flow) (r : ℕ) where
   pub routes-long : length (operands (routesOf φ r)) ≡ 8 * size (φ .start)
   unfolding routesOf
   routes-long =
-      operands-long (routesOf φ r) (λ p m. let (x, o, e) = Memᴰ·of-map (trail φ r 7) (members (φ .start)) m in rw e at (trail-long 7 x))
+      operands-long (routesOf φ r) (λ p m. let (x, o, e) = Memᴰ·of-map (trail φ r 7) (members (φ .start)) m in rw e at (trail-long φ r 7 x))
       ∙ ap (λ (k : ℕ). 8 * k) routes-many
 
 -- lay_route

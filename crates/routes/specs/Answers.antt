@@ -1,7 +1,7 @@
 -- What the code's answer stands for, and what holds of it.
 --     routingOf a    == the answer that the code's answer a stands for
---     Answered ..   <-> a is the answer to the call on card s, and `after` the lent bytes then. Routes that are answered keep the route rules and share no
---                       server but r; where a cut is answered there are no such routes, as each of them would take one of its servers
+--     Answered ..   <-> a is the answer to the call on card s, and `after` are the lent bytes then. Routes that are answered are f + 1, keep the route
+--                       rules and share no server but r. A cut that is answered has at most f servers, and every route meets one of them
 use mathlib.Core.Path.{_≡_}
 use mathlib.Core.List.{List}
 use Prim.Native.Nat.{ℕ, _+_, _*_}

@@ -17,7 +17,7 @@ use Rattle.rules.specs.Blocks.{operand}
 use Rattle.flow.specs.declared.Flow.{Flow}
 use Rattle.flow.specs.Routes.{trail}
 
-trail-long : (φ : Flow) (r k x : ℕ) → length (trail φ r k x) ≤ suc k
+pub trail-long : (φ : Flow) (r k x : ℕ) → length (trail φ r k x) ≤ suc k
 unfolding trail
 trail-long φ r zero x = omega arith
 trail-long φ r (suc k) x =
