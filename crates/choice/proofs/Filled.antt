@@ -2,7 +2,7 @@
 --     less-..      the two answers of `less_at`
 --     passing-..   the loop of `any_less` over the eight servers
 --     found-..     the two answers of `holds_weak`
---     filling-..   the loop of `weak_table` over the sets apart from F
+--     filling-..   the loop that fills the table, over the sets apart from F
 -- Assumes nothing.
 use mathlib.Core.Path.{_≡_, sym, ap, _∙_}
 use mathlib.Core.Bool.{Bool, true, false, _||_}
@@ -78,7 +78,7 @@ module _ (weak any : Bool) (b : Bool) (e : b ≡ weak) where
   pub found-less : b ≡ false → (a : Bool) → a ≡ any → a ≡ (weak || any)
   found-less t a q = cc
 
--- weak_table
+-- the table
 
 module _ (f : ℕ) (sizes lower upper : List ℕ) (F : ℕ) where
   -- before the turn of the set `at`

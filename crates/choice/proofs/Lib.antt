@@ -2,5 +2,5 @@
 -- Filled    the loop that fills the table
 -- Choosing  the side and the quorum, as they are looked up; the loop that takes servers out
 mod Smaller
-mod Filled
+pub mod Filled
 mod Choosing

@@ -43,8 +43,9 @@ fn any_less(table: &[bool; 256], set: u8) -> bool
     false
 }
 
-// The set is weak, or holds a weak set that lacks one of its servers.
-fn holds_weak(
+// The set is weak, or holds a weak set that lacks one of its servers, by a table with the entries of the
+// smaller sets.
+pub fn holds_weak(
     sizes: &[u8; 256],
     lower: &[u8; 16],
     upper: &[u8; 16],
@@ -59,30 +60,6 @@ fn holds_weak(
         return true;
     }
     any_less(table, set)
-}
-
-// Which of the sets apart from F hold a weak set. They come in the order of their numbers, so the entries
-// for the smaller sets are there when a set's turn comes.
-pub fn weak_table(
-    sizes: &[u8; 256],
-    lower: &[u8; 16],
-    upper: &[u8; 16],
-    servers: u8,
-    f: u8,
-    fault: u8,
-) -> [bool; 256]
-    ensures { λ r. ⌜ ((n : ℕ) (links : Links) → n ≤ 8 → servers ≡ full n → Tables n links (now (sizes .entry)) (now (lower .entry)) (now (upper .entry)) → WeakTable n f links fault r) ⌝ }
-{
-    let limit = (servers as u16) + 1;
-    let mut table = [false; 256];
-    let mut at = sets::next_apart(0, fault);
-    while at < limit {
-        let set = at as u8;
-        let held = holds_weak(sizes, lower, upper, f, fault, &table, set);
-        table[set as usize] = held;
-        at = sets::next_apart(set, fault);
-    }
-    table
 }
 
 // The set meets every weak set: what it leaves of V−F holds none.

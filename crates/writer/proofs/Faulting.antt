@@ -24,7 +24,7 @@ use Rattle.rules.specs.Blocks.{Block, encodeBlock, encodeBlocks}
 use Rattle.rules.proofs.Fans.{map-join}
 use Rattle.planner.specs.Plan.{blockOf, planOf}
 use Rattle.choice.specs.WeakTable.{WeakTable}
-use Rattle.writer.specs.Site.{Site, Ready}
+use Rattle.writer.specs.Site.{Site, Fault, Ready}
 use Rattle.writer.specs.Bytes.{cutsBytes}
 
 encode-join : (xs ys : List Block) → encodeBlocks (xs ++ ys) ≡ encodeBlocks xs ++ encodeBlocks ys
@@ -128,12 +128,12 @@ module _ (n f servers : ℕ) (full-is : (servers ≡ full n) × (servers + 1 ≡
   pub many-of : f < getD sizes i 0 → f < size i
   many-of e = size-past sizes t i f (omega arith) e
 
-  pub ready-of : (rows nears lower upper : List ℕ) → HalfTable nears 0 lower → HalfTable nears 4 upper → (links : Links) → Site n f links rows nears → size i ≤ f → (table : List Bool)
-      → ((n : ℕ) (links : Links) → n ≤ 8 → servers ≡ full n → Tables n links sizes lower upper → WeakTable n f links i table) → Ready n f links rows nears table i
-  ready-of rows nears lower upper lo hi links s e table w =
-      record {
-        site = s;
-        small = omega arith;
-        bound = e;
-        weaks = w n links (s .proper .most) (full-is .0) (record { sized = t; halves = halves-of n f links nears lower upper (s .proper) (s .back) lo hi });
-      }
+  pub fault-of : (rows nears lower upper : List ℕ) → HalfTable nears 0 lower → HalfTable nears 4 upper → (links : Links) → Site n f links rows nears → size i ≤ f → Fault n f links rows nears sizes lower upper i
+  fault-of rows nears lower upper lo hi links s e =
+      record { site = s; small = omega arith; bound = e; tables = record { sized = t; halves = halves-of n f links nears lower upper (s .proper) (s .back) lo hi } }
+
+-- with the table of the sets that hold a weak set
+pub ready-of : (n f : ℕ) (links : Links) (rows nears sizes lower upper : List ℕ) (F : ℕ) → Fault n f links rows nears sizes lower upper F → (servers : ℕ) → servers ≡ full n → (table : List Bool)
+    → ((n : ℕ) (links : Links) → n ≤ 8 → servers ≡ full n → Tables n links sizes lower upper → WeakTable n f links F table) → Ready n f links rows nears table F
+ready-of n f links rows nears sizes lower upper F s servers e table w =
+    record { site = s .site; small = s .small; bound = s .bound; weaks = w n links (s .site .proper .most) e (s .tables) }

@@ -9,14 +9,17 @@ use network::split::SplitAnswer;
 use refusal::CallGround;
 use refusal::Refusal;
 ghost use mathlib.Core.Path.{_≡_};
-ghost use Prim.Native.Nat.{_≤_};
+ghost use Prim.Native.Nat.{_+_, _≤_};
 ghost use lib.ListN.{length};
 ghost use Rattle.facts.specs.Laid.{laid};
+ghost use Rattle.network.specs.Links.{Links};
 ghost use Rattle.network.specs.Proper.{Proper};
 ghost use Rattle.network.specs.Split.{good, firstBad};
 ghost use Rattle.rules.specs.Blocks.{encodeBlocks};
 ghost use Rattle.planner.specs.Plan.{planOf, planBytes};
 ghost use Rattle.planner.specs.Write.{fitting, afterWrite};
+ghost use Rattle.writer.specs.Site.{Fault};
+ghost use Rattle.writer.specs.Bytes.{cutsBytes};
 ghost use Rattle.writer.specs.Answers.{writtenOf, Wrote};
 
 pub enum Written {
@@ -26,6 +29,36 @@ pub enum Written {
     Split { f: u8, l: u8, c: u8, r: u8 },
     // The card is refused, or the lent buffer is shorter than the plan.
     Refused(Refusal),
+}
+
+// The blocks of one F. First the table of the sets that hold a weak set: they come in the order of their
+// numbers, so the entries of the smaller sets are there when a set's turn comes.
+fn put_fault(
+    lent: &mut [u8],
+    start: usize,
+    n: u8,
+    f: u8,
+    rows: &[u8; 8],
+    nears: &[u8; 8],
+    sizes: &[u8; 256],
+    lower: &[u8; 16],
+    upper: &[u8; 16],
+    fault: u8,
+) -> usize
+    requires { ⌜ ((links : Links) × Fault n f links (now rows) (now nears) (now sizes) (now lower) (now upper) fault × (start + length (cutsBytes n f links fault) ≤ length (now lent))) ⌝ }
+    ensures { λ r. ⌜ ((links : Links) → Fault n f links (now (rows .entry)) (now (nears .entry)) (now (sizes .entry)) (now (lower .entry)) (now (upper .entry)) fault → (start + length (cutsBytes n f links fault) ≤ length (now (lent .entry))) → (now (lent .exit) ≡ laid start (cutsBytes n f links fault) (now (lent .entry))) × (r ≡ start + length (cutsBytes n f links fault))) ⌝ }
+{
+    let servers = sets::full(n);
+    let limit = (servers as u16) + 1;
+    let mut table = [false; 256];
+    let mut next = sets::next_apart(0, fault);
+    while next < limit {
+        let set = next as u8;
+        let held = choice::holds_weak(sizes, lower, upper, f, fault, &table, set);
+        table[set as usize] = held;
+        next = sets::next_apart(set, fault);
+    }
+    cuts::put_cuts(&mut *lent, start, n, f, rows, nears, &table, fault)
 }
 
 // The blocks of each F of at most f servers, ascending; the place after them.
@@ -45,8 +78,18 @@ fn put_blocks(lent: &mut [u8], n: u8, f: u8, links: [[bool; 8]; 8]) -> usize
     while i < limit {
         let fault = i as u8;
         if sizes[fault as usize] <= f {
-            let table = choice::weak_table(&sizes, &lower, &upper, servers, f, fault);
-            at = cuts::put_cuts(&mut *lent, at, n, f, &rows, &nears, &table, fault);
+            at = put_fault(
+                &mut *lent,
+                at,
+                n,
+                f,
+                &rows,
+                &nears,
+                &sizes,
+                &lower,
+                &upper,
+                fault,
+            );
             i = i + 1;
         } else {
             i = i + 1;

@@ -9,8 +9,8 @@ use Rattle.network.specs.Links.{Links}
 use Rattle.plan.proofs.Cuts.{full-few}
 use Rattle.rules.specs.Blocks.{encodeBlocks}
 use Rattle.planner.specs.Plan.{planOf}
-use Rattle.writer.specs.Site.{Site, Ready}
-use Rattle.writer.proofs.Faulting.{Faulting, faulting-starts, faulting-ends, faulting-skips, faulting-room, faulting-turn, few-of, many-of, ready-of}
+use Rattle.writer.specs.Site.{Site}
+use Rattle.writer.proofs.Faulting.{Faulting, faulting-starts, faulting-ends, faulting-skips, faulting-room, faulting-turn, few-of, many-of, fault-of}
 use Rattle.writer.proofs.write.put_blocks.Statement.{statement}
 use Rattle.writer.proofs.write.put_blocks.Tie as tie
 use Rattle.writer.proofs.write.put_blocks.Reads as reads
@@ -21,8 +21,7 @@ use Rattle.network.proofs.sources.source_rows.Reads as source-rows-reads
 use Rattle.network.proofs.sources.upper_table.Reads as upper-table-reads
 use Rattle.sets.proofs.full.Reads as full-reads
 use Rattle.sets.proofs.sizes.Reads as sizes-reads
-use Rattle.writer.proofs.cuts.put_cuts.Reads as put-cuts-reads
-use Rattle.choice.proofs.weak_table.Reads as weak-table-reads
+use Rattle.writer.proofs.write.put_fault.Reads as put-fault-reads
 
 abbrev Inv-loop : tie.InvT-loop
 Inv-loop lent₀ n f rows nears lower upper sizes servers limit at₀ i₀ lent at i =
@@ -67,28 +66,25 @@ cast-if1 c = search needs
 array-read-if1 : tie.Need-array-read-if1 Inv-loop μ-loop
 array-read-if1 c = search needs
 
-weak-table-requires : tie.Need-weak-table-requires Inv-loop μ-loop
-weak-table-requires c κs = search needs
-
-put-cuts-requires : tie.Need-put-cuts-requires Inv-loop μ-loop
-put-cuts-requires c κs =
-    let s : Site _ _ _ _ _ = (record { proper = c .before .before .before .before .before .before .before .before .before .before .before .before .before .before .before .before .before .before .pre .0; fine = c .before .before .before .before .before .before .before .before .before .before .before .before .before .before .before .before .before .before .pre .1; ahead = c .before .before .before .before .before .before .before .before .before .before .before .before .before .before .before .before .rows .ensures; back = c .before .before .before .before .before .before .before .before .before .before .before .before .before .before .before .source-rows .ensures }) in
-    let h = c .before .before .before .before .before .before .before .before .before .loop-test .taken in
-    let e = few-of _ _ _ (full-few _ _ (c .before .before .before .before .before .before .before .before .before .before .before .before .before .before .before .before .before .before .pre .0 .most) (c .before .before .before .before .before .before .before .before .before .before .before .full .ensures)) _ h _ (c .before .before .before .before .before .before .before .before .before .before .before .before .sizes .ensures) (c .before .before .before .before .before .before .before .before .if1 .taken) in
-    (_, ready-of _ _ _ (full-few _ _ (c .before .before .before .before .before .before .before .before .before .before .before .before .before .before .before .before .before .before .pre .0 .most) (c .before .before .before .before .before .before .before .before .before .before .before .full .ensures)) _ h _ (c .before .before .before .before .before .before .before .before .before .before .before .before .sizes .ensures) (c .before .before .before .before .before .before .before .before .before .before .before .before .before .before .before .before .rows .result) (c .before .before .before .before .before .before .before .before .before .before .before .before .before .before .before .source-rows .result) (c .before .before .before .before .before .before .before .before .before .before .before .before .before .before .lower-table .result) (c .before .before .before .before .before .before .before .before .before .before .before .before .before .upper-table .result) (c .before .before .before .before .before .before .before .before .before .before .before .before .before .before .lower-table .ensures) (c .before .before .before .before .before .before .before .before .before .before .before .before .before .upper-table .ensures) _ s e _ (c .before .before .before .before .weak-table .ensures), faulting-room _ _ _ _ _ _ _ _ (c .before .before .before .before .before .before .before .before .before .before .loop .inv _ s (c .before .before .before .before .before .before .before .before .before .before .before .before .before .before .before .before .before .before .pre .2)) h e)
+put-fault-requires : tie.Need-put-fault-requires Inv-loop μ-loop
+put-fault-requires c κs = 
+    let s : Site _ _ _ _ _ = (record { proper = c .before .before .before .before .before .before .before .before .before .before .before .before .before .before .before .before .pre .0; fine = c .before .before .before .before .before .before .before .before .before .before .before .before .before .before .before .before .pre .1; ahead = c .before .before .before .before .before .before .before .before .before .before .before .before .before .before .rows .ensures; back = c .before .before .before .before .before .before .before .before .before .before .before .before .before .source-rows .ensures }) in
+    let h = c .before .before .before .before .before .before .before .loop-test .taken in
+    let e = few-of _ _ _ (full-few _ _ (c .before .before .before .before .before .before .before .before .before .before .before .before .before .before .before .before .pre .0 .most) (c .before .before .before .before .before .before .before .before .before .full .ensures)) _ h _ (c .before .before .before .before .before .before .before .before .before .before .sizes .ensures) (c .before .before .before .before .before .before .if1 .taken) in
+    (_, fault-of _ _ _ (full-few _ _ (c .before .before .before .before .before .before .before .before .before .before .before .before .before .before .before .before .pre .0 .most) (c .before .before .before .before .before .before .before .before .before .full .ensures)) _ h _ (c .before .before .before .before .before .before .before .before .before .before .sizes .ensures) (c .before .before .before .before .before .before .before .before .before .before .before .before .before .before .rows .result) (c .before .before .before .before .before .before .before .before .before .before .before .before .before .source-rows .result) (c .before .before .before .before .before .before .before .before .before .before .before .before .lower-table .result) (c .before .before .before .before .before .before .before .before .before .before .before .upper-table .result) (c .before .before .before .before .before .before .before .before .before .before .before .before .lower-table .ensures) (c .before .before .before .before .before .before .before .before .before .before .before .upper-table .ensures) _ s e, faulting-room _ _ _ _ _ _ _ _ (c .before .before .before .before .before .before .before .before .loop .inv _ s (c .before .before .before .before .before .before .before .before .before .before .before .before .before .before .before .before .pre .2)) h e)
 
 add-i : tie.Need-add-i Inv-loop μ-loop
-add-i c = let w = (full-few _ _ (c .before .before .before .before .before .before .before .before .before .before .before .before .before .before .before .before .before .before .before .before .before .pre .0 .most) (c .before .before .before .before .before .before .before .before .before .before .before .before .before .before .full .ensures)) in omega arith
+add-i c = let w = (full-few _ _ (c .before .before .before .before .before .before .before .before .before .before .before .before .before .before .before .before .before .before .before .pre .0 .most) (c .before .before .before .before .before .before .before .before .before .before .before .before .full .ensures)) in omega arith
 
 loop-less : tie.Need-loop-less Inv-loop μ-loop
 loop-less c = search needs
 
 loop-again : tie.Need-loop-again Inv-loop μ-loop
 loop-again c = λ links s room.
-    let h = c .before .before .before .before .before .before .before .before .before .before .before .before .loop-test .taken in
-    let e = few-of _ _ _ (full-few _ _ (c .before .before .before .before .before .before .before .before .before .before .before .before .before .before .before .before .before .before .before .before .before .pre .0 .most) (c .before .before .before .before .before .before .before .before .before .before .before .before .before .before .full .ensures)) _ h _ (c .before .before .before .before .before .before .before .before .before .before .before .before .before .before .before .sizes .ensures) (c .before .before .before .before .before .before .before .before .before .before .before .if1 .taken) in
-    let i = c .before .before .before .before .before .before .before .before .before .before .before .before .before .loop .inv links s room in
-    let o = c .before .before .put-cuts .ensures links (ready-of _ _ _ (full-few _ _ (c .before .before .before .before .before .before .before .before .before .before .before .before .before .before .before .before .before .before .before .before .before .pre .0 .most) (c .before .before .before .before .before .before .before .before .before .before .before .before .before .before .full .ensures)) _ h _ (c .before .before .before .before .before .before .before .before .before .before .before .before .before .before .before .sizes .ensures) (c .before .before .before .before .before .before .before .before .before .before .before .before .before .before .before .before .before .before .before .rows .result) (c .before .before .before .before .before .before .before .before .before .before .before .before .before .before .before .before .before .before .source-rows .result) (c .before .before .before .before .before .before .before .before .before .before .before .before .before .before .before .before .before .lower-table .result) (c .before .before .before .before .before .before .before .before .before .before .before .before .before .before .before .before .upper-table .result) (c .before .before .before .before .before .before .before .before .before .before .before .before .before .before .before .before .before .lower-table .ensures) (c .before .before .before .before .before .before .before .before .before .before .before .before .before .before .before .before .upper-table .ensures) links s e _ (c .before .before .before .before .before .before .before .weak-table .ensures)) (faulting-room _ _ links _ _ _ _ _ i h e) in
+    let h = c .before .before .before .before .before .before .before .before .before .before .loop-test .taken in
+    let e = few-of _ _ _ (full-few _ _ (c .before .before .before .before .before .before .before .before .before .before .before .before .before .before .before .before .before .before .before .pre .0 .most) (c .before .before .before .before .before .before .before .before .before .before .before .before .full .ensures)) _ h _ (c .before .before .before .before .before .before .before .before .before .before .before .before .before .sizes .ensures) (c .before .before .before .before .before .before .before .before .before .if1 .taken) in
+    let i = c .before .before .before .before .before .before .before .before .before .before .before .loop .inv links s room in
+    let o = c .before .before .put-fault .ensures links (fault-of _ _ _ (full-few _ _ (c .before .before .before .before .before .before .before .before .before .before .before .before .before .before .before .before .before .before .before .pre .0 .most) (c .before .before .before .before .before .before .before .before .before .before .before .before .full .ensures)) _ h _ (c .before .before .before .before .before .before .before .before .before .before .before .before .before .sizes .ensures) (c .before .before .before .before .before .before .before .before .before .before .before .before .before .before .before .before .before .rows .result) (c .before .before .before .before .before .before .before .before .before .before .before .before .before .before .before .before .source-rows .result) (c .before .before .before .before .before .before .before .before .before .before .before .before .before .before .before .lower-table .result) (c .before .before .before .before .before .before .before .before .before .before .before .before .before .before .upper-table .result) (c .before .before .before .before .before .before .before .before .before .before .before .before .before .before .before .lower-table .ensures) (c .before .before .before .before .before .before .before .before .before .before .before .before .before .before .upper-table .ensures) links s e) (faulting-room _ _ links _ _ _ _ _ i h e) in
     faulting-turn _ _ links _ _ _ _ _ i h e _ _ (o .0) (o .1)
 
 add-i-2 : tie.Need-add-i-2 Inv-loop μ-loop
@@ -124,8 +120,7 @@ put-blocks-spec =
     cast-fault
     cast-if1
     array-read-if1
-    weak-table-requires
-    put-cuts-requires
+    put-fault-requires
     add-i
     loop-less
     loop-again
