@@ -30,10 +30,10 @@ use Rattle.writer.specs.Bytes.{openingBytes, bodyBytes, cutsBytes, Stand
 use Rattle.writer.proofs.Copies.{laid-kept, laid-held}
 use Rattle.writer.proofs.Repeats.{block-split}
 
-no-place : (n x : ℕ) → getD {A = ℕ} (replicate n 0) x 0 ≡ 0
-no-place zero x = refl
-no-place (suc n) zero = refl
-no-place (suc n) (suc x) = no-place n x
+no-place : (n x : ℕ) → x < n → getD {A = ℕ} (replicate n 1) x 0 ≡ 1
+no-place zero x h = absurd (omega arith)
+no-place (suc n) zero h = refl
+no-place (suc n) (suc x) h = no-place n x (omega arith)
 
 module _ (n f : ℕ) (links : Links) (F : ℕ) where
   -- a part and its block
@@ -57,7 +57,7 @@ module _ (n f : ℕ) (links : Links) (F : ℕ) where
 
   -- a body that has a place stands there, and `each` is the length of a block
   abbrev Held : (S from each at : ℕ) → List ℕ → Type 0
-  Held S from each at lent = (from ≡ 0) ⊎ ((each ≡ blockLength n f F) × Stands (bodyBytes n f links F S) from each at lent)
+  Held S from each at lent = (from ≡ 1) ⊎ ((each ≡ blockLength n f F) × Stands (bodyBytes n f links F S) from each at lent)
 
   module _ (limit start : ℕ) (old : List ℕ) where
     pub record Cutting (p at each : ℕ) (places lent : List ℕ) : Type 0 where
@@ -67,9 +67,9 @@ module _ (n f : ℕ) (links : Links) (F : ℕ) where
       pub whole : laid at (left limit p) lent ≡ laid start (cutsBytes n f links F) old
       pub reach : at + length (left limit p) ≡ start + length (cutsBytes n f links F)
       pub many : length places ≡ 256
-      pub held : (S : ℕ) → Held S (getD places S 0) each at lent
+      pub held : (S : ℕ) → S < 256 → Held S (getD places S 0) each at lent
 
-    pub cutting-starts : limit ≡ 2 ^ n → start + length (cutsBytes n f links F) ≤ length old → Cutting 0 start 0 (replicate 256 0) old
+    pub cutting-starts : limit ≡ 2 ^ n → start + length (cutsBytes n f links F) ≤ length old → Cutting 0 start 0 (replicate 256 1) old
     unfolding cutsBytes
     cutting-starts e r =
         let z : left limit 0 ≡ cutsBytes n f links F = rw e (let y : 2 ^ n - 0 ≡ 2 ^ n = omega arith in rw y refl) in
@@ -80,7 +80,7 @@ module _ (n f : ℕ) (links : Links) (F : ℕ) where
           whole = ap (λ (t : List ℕ). laid start t old) z;
           reach = ap (λ (t : List ℕ). start + length t) z;
           many = refl;
-          held = λ S. inl (no-place 256 S);
+          held = λ S h. inl (no-place 256 S h);
         }
 
     module _ (p at each : ℕ) (places lent : List ℕ) (so : Cutting p at each places lent) where
@@ -98,7 +98,7 @@ module _ (n f : ℕ) (links : Links) (F : ℕ) where
           record { inside = omega arith; long = so .long; room = rw z at (so .room); whole = rw z at (so .whole); reach = rw z at (so .reach); many = so .many; held = so .held }
 
       module _ {rows nears : List ℕ} {table : List Bool} (r : Ready n f links rows nears table F) (lim : limit ≡ 2 ^ n) (h : p < limit) (e : isPart (minus (full n) F) p ≡ true)
-          (A S from : ℕ) (ea : A ≡ sideOf n f links F p) (es : S ≡ quorumOf n f links F (sideOf n f links F p)) (ef : from ≡ getD places S 0) where
+          (A S from : ℕ) (ea : A ≡ sideOf n f links F p) (es : S ≡ quorumOf n f links F (sideOf n f links F p)) (ef : from ≡ getD places S 0) (byte : S < 256) where
         -- the block for this part
         abbrev block : List ℕ
         block = encodeBlock (blockWith n f links F A S)
@@ -124,7 +124,7 @@ module _ (n f : ℕ) (links : Links) (F : ℕ) where
             omega arith
 
         here : Held S from each at lent
-        here = rw (sym ef) at (so .held S)
+        here = rw (sym ef) at (so .held S byte)
 
         body-long : length block ≡ 4 + length (bodyBytes n f links F S)
         unfolding openingBytes
@@ -133,7 +133,7 @@ module _ (n f : ℕ) (links : Links) (F : ℕ) where
         pub cutting-again : Again (bodyBytes n f links F S) from each at lent
         cutting-again = ⊎-elim inl (λ w. inr (w .1)) here
 
-        pub cutting-ready : (at ≤ length lent) × ((from ≡ 0) ⊎ ((4 ≤ each) × (from + (each - 4) ≤ at) × (at + each ≤ length lent)))
+        pub cutting-ready : (at ≤ length lent) × ((from ≡ 1) ⊎ ((4 ≤ each) × (from + (each - 4) ≤ at) × (at + each ≤ length lent)))
         cutting-ready =
             let a = block-room in
             let b = block-long in
@@ -146,7 +146,7 @@ module _ (n f : ℕ) (links : Links) (F : ℕ) where
         pub cutting-fits : (bytes : ℕ) → bytes ≡ length block → at + bytes ≤ length old
         cutting-fits bytes q = let a = block-room in let w = so .long in omega arith
 
-        module _ (lent′ : List ℕ) (bytes : ℕ) (el : lent′ ≡ laid at block lent) (eb : bytes ≡ length block) (small : S < 256) where
+        module _ (lent′ : List ℕ) (bytes : ℕ) (el : lent′ ≡ laid at block lent) (eb : bytes ≡ length block) where
           -- the body of this block stands behind its opening
           new-body : Stands (bodyBytes n f links F S) (at + 4) bytes (at + bytes) lent′
           unfolding openingBytes
@@ -173,13 +173,13 @@ module _ (n f : ℕ) (links : Links) (F : ℕ) where
                 there = ap (λ (t : List ℕ). take (length (bodyBytes n f links F S′)) (drop from′ t)) el ∙ laid-kept at block lent from′ (length (bodyBytes n f links F S′)) y ∙ s .there;
               }
 
-          all-held : (S′ : ℕ) → Held S′ (getD (set places S (at + 4)) S′ 0) bytes (at + bytes) lent′
-          all-held S′ =
+          all-held : (S′ : ℕ) → S′ < 256 → Held S′ (getD (set places S (at + 4)) S′ 0) bytes (at + bytes) lent′
+          all-held S′ k =
               let b = block-long in
               let m = so .many in
               cases (eqb S′ S)
               (λ q. let z = eqb-true S′ S q in rw z (rw (getD-set-same places S (at + 4) 0 (omega arith)) (inr (eb ∙ b, new-body))))
-              (λ q. rw (getD-set-other places S S′ (at + 4) 0 (eqb-false S′ S q)) (⊎-elim inl (λ w. inr (eb ∙ b, old-body S′ (getD places S′ 0) (w .1) (w .0))) (so .held S′)))
+              (λ q. rw (getD-set-other places S S′ (at + 4) 0 (eqb-false S′ S q)) (⊎-elim inl (λ w. inr (eb ∙ b, old-body S′ (getD places S′ 0) (w .1) (w .0))) (so .held S′ k)))
 
           pub cutting-turn : Cutting (p + 1) (at + bytes) bytes (set places S (at + 4)) lent′
           cutting-turn =

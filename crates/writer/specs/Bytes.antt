@@ -30,5 +30,6 @@ pub record Stands (body : List ℕ) (from each at : ℕ) (lent : List ℕ) : Typ
   pub before : from + length body ≤ at
   pub there : take (length body) (drop from lent) ≡ body
 
+-- 1 stands for no place: no body starts there
 abbrev pub Again : List ℕ → (from each at : ℕ) → List ℕ → Type 0
-Again body from each at lent = (from ≡ 0) ⊎ Stands body from each at lent
+Again body from each at lent = (from ≡ 1) ⊎ Stands body from each at lent

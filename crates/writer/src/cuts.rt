@@ -13,6 +13,10 @@ ghost use Rattle.planner.specs.Plan.{blockWith};
 ghost use Rattle.writer.specs.Site.{Site, Ready};
 ghost use Rattle.writer.specs.Bytes.{bodyBytes, cutsBytes, Again};
 
+// No place: a body stands behind an opening. (An array of zeros would be filled by a call of the C
+// library.)
+const NOWHERE: usize = 1;
+
 // A block written anew; how many bytes it has.
 fn put_new(
     lent: &mut [u8],
@@ -55,10 +59,10 @@ fn put_one(
     side: u8,
     quorum: u8,
 ) -> usize
-    requires { ⌜ (at ≤ length (now lent)) × ((from ≡ 0) ⊎ ((4 ≤ each) × (from + (each - 4) ≤ at) × (at + each ≤ length (now lent)))) ⌝ }
+    requires { ⌜ (at ≤ length (now lent)) × ((from ≡ 1) ⊎ ((4 ≤ each) × (from + (each - 4) ≤ at) × (at + each ≤ length (now lent)))) ⌝ }
     ensures { λ r. ⌜ ((n f : ℕ) (links : Links) → Site n f links (now (rows .entry)) (now (sources .entry)) → sound ≡ minus (full n) fault → count ≡ f + 1 → Again (bodyBytes n f links fault quorum) from each at (now (lent .entry)) → (now (lent .exit) ≡ laid at (encodeBlock (blockWith n f links fault side quorum)) (now (lent .entry))) × (r ≡ length (encodeBlock (blockWith n f links fault side quorum)))) × (r ≤ 16384 + each) × (length (now (lent .exit)) ≡ length (now (lent .entry))) ⌝ }
 {
-    if from == 0 {
+    if from == NOWHERE {
         return put_new(
             &mut *lent,
             at,
@@ -96,7 +100,7 @@ pub fn put_cuts(
     let sound = sets::minus(servers, fault);
     let limit = (servers as u16) + 1;
     let count = f + 1;
-    let mut places = [0usize; 256];
+    let mut places = [NOWHERE; 256];
     let mut each: usize = 0;
     let mut at = start;
     let mut p: u16 = 0;

@@ -73,7 +73,7 @@ put-one-requires c κs =
     let i = c .before .before .before .before .before .loop .inv (pre .0) (pre .1) (pre .2) in
     let e = sym (ap (λ (x : ℕ). isPart x (c .before .before .before .before .before .loop .p)) s) ∙ sym (c .before .before .before .is-part .ensures) ∙ c .before .before .if1 .taken in
     let d = c .before .choose .ensures _ _ (pre .0) _ s (pre .1 .weaks) in
-    cutting-ready _ _ (pre .0) _ _ _ _ _ _ _ _ _ i (pre .1) (w .1) (c .before .before .before .before .loop-test .taken) e _ _ _ (d .side) (d .quorum) refl
+    cutting-ready _ _ (pre .0) _ _ _ _ _ _ _ _ _ i (pre .1) (w .1) (c .before .before .before .before .loop-test .taken) e _ _ _ (d .side) (d .quorum) refl (search needs)
 
 add-body : tie.Need-add-body Inv-loop μ-loop
 add-body c =
@@ -83,7 +83,7 @@ add-body c =
     let i = c .before .before .before .before .before .before .before .before .loop .inv (pre .0) (pre .1) (pre .2) in
     let e = sym (ap (λ (x : ℕ). isPart x (c .before .before .before .before .before .before .before .before .loop .p)) s) ∙ sym (c .before .before .before .before .before .before .is-part .ensures) ∙ c .before .before .before .before .before .if1 .taken in
     let d = c .before .before .before .before .choose .ensures _ _ (pre .0) _ s (pre .1 .weaks) in
-    let l = cutting-sums _ _ (pre .0) _ _ _ _ _ _ _ _ _ i (pre .1) (w .1) (c .before .before .before .before .before .before .before .loop-test .taken) e _ _ _ (d .side) (d .quorum) refl in
+    let l = cutting-sums _ _ (pre .0) _ _ _ _ _ _ _ _ _ i (pre .1) (w .1) (c .before .before .before .before .before .before .before .loop-test .taken) e _ _ _ (d .side) (d .quorum) refl (search needs) in
     search needs
 
 mul-places : tie.Need-mul-places Inv-loop μ-loop
@@ -101,8 +101,8 @@ add-at c =
     let e = sym (ap (λ (x : ℕ). isPart x (c .before .before .before .before .before .before .before .before .loop .p)) s) ∙ sym (c .before .before .before .before .before .before .is-part .ensures) ∙ c .before .before .before .before .before .if1 .taken in
     let d = c .before .before .before .before .choose .ensures _ _ (pre .0) _ s (pre .1 .weaks) in
     let h = c .before .before .before .before .before .before .before .loop-test .taken in
-    let o = c .before .before .put-one .ensures .0 _ _ (pre .0) (pre .1 .site) s refl (cutting-again _ _ (pre .0) _ _ _ _ _ _ _ _ _ i (pre .1) (w .1) h e _ _ _ (d .side) (d .quorum) refl) in
-    let l = cutting-fits _ _ (pre .0) _ _ _ _ _ _ _ _ _ i (pre .1) (w .1) h e _ _ _ (d .side) (d .quorum) refl _ (o .1) in
+    let o = c .before .before .put-one .ensures .0 _ _ (pre .0) (pre .1 .site) s refl (cutting-again _ _ (pre .0) _ _ _ _ _ _ _ _ _ i (pre .1) (w .1) h e _ _ _ (d .side) (d .quorum) refl (search needs)) in
+    let l = cutting-fits _ _ (pre .0) _ _ _ _ _ _ _ _ _ i (pre .1) (w .1) h e _ _ _ (d .side) (d .quorum) refl (search needs) _ (o .1) in
     search needs
 
 add-p : tie.Need-add-p Inv-loop μ-loop
@@ -119,8 +119,8 @@ loop-again c = λ links r room.
     let e = sym (ap (λ (x : ℕ). isPart x (c .before .before .before .before .before .before .before .before .loop .p)) s) ∙ sym (c .before .before .before .before .before .before .is-part .ensures) ∙ c .before .before .before .before .before .if1 .taken in
     let d = c .before .before .before .before .choose .ensures _ _ links _ s (r .weaks) in
     let h = c .before .before .before .before .before .before .before .loop-test .taken in
-    let o = c .before .before .put-one .ensures .0 _ _ links (r .site) s refl (cutting-again _ _ links _ _ _ _ _ _ _ _ _ i r (w .1) h e _ _ _ (d .side) (d .quorum) refl) in
-    cutting-turn _ _ links _ _ _ _ _ _ _ _ _ i r (w .1) h e _ _ _ (d .side) (d .quorum) refl _ _ (o .0) (o .1) (search needs)
+    let o = c .before .before .put-one .ensures .0 _ _ links (r .site) s refl (cutting-again _ _ links _ _ _ _ _ _ _ _ _ i r (w .1) h e _ _ _ (d .side) (d .quorum) refl (search needs)) in
+    cutting-turn _ _ links _ _ _ _ _ _ _ _ _ i r (w .1) h e _ _ _ (d .side) (d .quorum) refl (search needs) _ _ (o .0) (o .1)
 
 add-p-2 : tie.Need-add-p-2 Inv-loop μ-loop
 add-p-2 c = let w = (full-few _ _ (c .before .before .before .before .before .before .before .pre .1 .site .proper .most) (c .before .before .before .before .before .full .ensures)) in omega arith

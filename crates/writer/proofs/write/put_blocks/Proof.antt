@@ -67,7 +67,7 @@ array-read-if1 : tie.Need-array-read-if1 Inv-loop μ-loop
 array-read-if1 c = search needs
 
 put-fault-requires : tie.Need-put-fault-requires Inv-loop μ-loop
-put-fault-requires c κs = 
+put-fault-requires c κs =
     let s : Site _ _ _ _ _ = (record { proper = c .before .before .before .before .before .before .before .before .before .before .before .before .before .before .before .before .pre .0; fine = c .before .before .before .before .before .before .before .before .before .before .before .before .before .before .before .before .pre .1; ahead = c .before .before .before .before .before .before .before .before .before .before .before .before .before .before .rows .ensures; back = c .before .before .before .before .before .before .before .before .before .before .before .before .before .source-rows .ensures }) in
     let h = c .before .before .before .before .before .before .before .loop-test .taken in
     let e = few-of _ _ _ (full-few _ _ (c .before .before .before .before .before .before .before .before .before .before .before .before .before .before .before .before .pre .0 .most) (c .before .before .before .before .before .before .before .before .before .full .ensures)) _ h _ (c .before .before .before .before .before .before .before .before .before .before .sizes .ensures) (c .before .before .before .before .before .before .if1 .taken) in
