@@ -9,6 +9,8 @@
 //     b CARD BUFFER                            the words of the card printed back, and the lent bytes
 //                                              after it
 //     p CARD PLAN                              the words of the plan check
+//     f CARD                                   the words of the plan writer with 300,000 bytes lent, and
+//                                              where a plan is written those of the plan check of it
 //     w SITE OPERAND                           the set of a route's servers, and the servers as they
 //                                              are handed back
 //     l CARD PLAN                              the words of the load on each relay
@@ -137,6 +139,37 @@ fn plan_case(card: &[u8], plan: &[u8]) {
     agreement::agreement_check_plan(card, plan, &mut answer);
     print_words(answer);
     end_line();
+}
+
+// The bytes of the plan that was written.
+fn front(lent: &[u8], bytes: u64) -> &[u8] {
+    let n = bytes as usize;
+    if lent.len() < n {
+        return &lent[0..0];
+    }
+    &lent[0..n]
+}
+
+fn write_into(card: &[u8], lent: &mut [u8]) {
+    let mut answer = [9u64; 8];
+    agreement::agreement_write_plan(card, &mut *lent, &mut answer);
+    print_words([answer[0], answer[1], answer[2], answer[3]]);
+    print_words([answer[4], answer[5], answer[6], answer[7]]);
+    if answer[0] == 0 {
+        plan_case(card, front(&lent[..], answer[1]));
+        return;
+    }
+    end_line();
+}
+
+// Apart from write_case, so that no proof writes out all the bytes.
+fn write_within(card: &[u8], lent: &mut [u8; 300000]) {
+    write_into(card, &mut *lent);
+}
+
+fn write_case(card: &[u8]) {
+    let mut lent = [165u8; 300000];
+    write_within(card, &mut lent);
 }
 
 fn load_case(card: &[u8], plan: &[u8]) {
@@ -304,6 +337,10 @@ fn answer_case(kind: u8, s: &[u8]) -> &[u8]
     }
     if kind == 113 {
         quick_case(card);
+        return first;
+    }
+    if kind == 102 {
+        write_case(card);
         return first;
     }
     let plan = part(first);

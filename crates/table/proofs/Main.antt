@@ -8,19 +8,32 @@ use Prim.Native.Nat.{ℕ}
 use lib.Dec.{eqb}
 use borrow.Author.Tests.{eqb-true}
 use Rattle.facts.proofs.Bools.{and-left, and-right, clash}
-use Rattle.sets.specs.Sets.{has, single, union, meet, minus, within, full, count, size, firstIn, lowest}
+use Rattle.sets.specs.Sets.{has, single, union, meet, minus, within, encode, full, count, size, firstIn, lowest}
 use Rattle.network.specs.Links.{noLinks, linkedIn, withLink}
+use Rattle.network.specs.Rows.{rowOf, rowsFrom, rowsOf}
+use Rattle.network.specs.Sources.{sourcesTo}
+use Rattle.network.specs.Weak.{outside, weak}
 use Rattle.network.specs.Card.{headFits, linkFits, headAt, linkAt, endAt, stepAt, commands, readCard}
 use Rattle.network.specs.Split.{someBelow, incoming, held, rest, isSplit, isBad, badAt, firstFrom, badWithSides, badWithFaults, firstBad, splitTest}
 use Rattle.network.specs.Print.{linkBytes, cardBytes, linksAmong, ascending, printCard, cleanCard, fitting, printInto, printedIn}
 use Rattle.two_way.specs.Separation.{oneWay, linkTo, others, parts, separates, separable, connectivity}
 use Rattle.two_way.specs.Quick.{serversWanted, awayWanted, olderRule, quickTest}
 use Rattle.plan.specs.Members.{listFrom, members}
-use Rattle.plan.specs.Due.{isPart, due, fan, toOne, pairs, routesDue}
+use Rattle.plan.specs.Due.{isPart, blocksOf, blocksOfAll, due, fan, toOne, pairs, routesDue}
 use Rattle.route.specs.Route.{path, isFill, filled, serversOf, goesOn, isPath, isRoute, checkedRoute, routeSet}
 use Rattle.route.specs.Commands.{width, isCut}
 use Rattle.plan.specs.Check.{isDue, routeAt, checkGroup, checkGroups, allLinked, isReport, checkReports, checkBlock, checkBlocks, checkEnd, checkOn, checkPlan}
-use Rattle.rules.specs.Blocks.{routesAt, reportsAt, inwardDue, amongDue, outwardDue, decodeBlock, lengthOf, decodeBlocks, decodePlan, reportCarriages, carriagesOf}
+use Rattle.rules.specs.Blocks.{operand, encodeRoutes, encodeReports, encodeBlock, encodeBlocks, encodePlan, routesAt, reportsAt, inwardDue, amongDue, outwardDue, decodeBlock, lengthOf, decodeBlocks, decodePlan, reportCarriages, carriagesOf}
+use Rattle.rules.specs.Rules.{sourcesFor, pairsOf}
+use Rattle.flow.specs.Search.{straight, lowestOf, outIn, withStart, withEnd, withUse, withoutUse, withStep, withoutStep, lost, reached, changed, feeder, behind, stepIn, stepOut, tries, ahead, enter, seek, seekAll, lastIn, linking, flowBy}
+use Rattle.flow.specs.Routes.{trail, cutOf, separateRoutes}
+use Rattle.flow.specs.Routes as Flow
+use Rattle.planner.specs.Choice.{holdsWeak, meetsAll, sideOf, without, thinned, quorumOf}
+use Rattle.planner.specs.Plan.{routesTo, fansTo, meshOf, reportTo, blockWith, planOf, planBytes}
+use Rattle.planner.specs.Plan as Plan
+use Rattle.planner.specs.Write.{planFor, writeInto, writtenIn}
+use Rattle.planner.specs.Write as Write
+use Rattle.routes.specs.Routing.{callFits, operands, answerFor, routeInto, routedIn}
 use Rattle.load.specs.Load.{relaysOf, relayed, routesOf, planRoutes, countsFrom, loadOf, loadCall}
 use Rattle.load.specs.Places.{hasRoute, operandsFrom, operandsIn, placesOf, placesIn}
 use Rattle.steps.specs.Hearing.{hit, read, message, brought, heard, all, common}
@@ -66,8 +79,8 @@ passing-each (first ∷ rs) h r m =
 
 -- one `refl` a row, in the table's order: of a row that fails the checker prints the name
 computed : Passing table
-unfolding test sameList has single union meet minus within full count size firstIn lowest noLinks linkedIn withLink headFits linkFits headAt linkAt endAt stepAt commands readCard someBelow incoming held rest isSplit isBad badAt firstFrom badWithSides badWithFaults firstBad splitTest oneWay linkTo others parts separates separable connectivity serversWanted awayWanted olderRule quickTest linkBytes cardBytes linksAmong ascending printCard cleanCard fitting printInto printedIn listFrom members isPart due fan toOne pairs routesDue path isFill filled serversOf goesOn isPath isRoute checkedRoute routeSet width isCut isDue routeAt checkGroup checkGroups allLinked isReport checkReports checkBlock checkBlocks checkEnd checkOn checkPlan routesAt reportsAt inwardDue amongDue outwardDue decodeBlock lengthOf decodeBlocks decodePlan reportCarriages carriagesOf relaysOf relayed routesOf planRoutes countsFrom loadOf loadCall hasRoute operandsFrom operandsIn placesOf placesIn hit read message brought heard all common valuesFrom values step1 gather compare step5 step6 runBlock runBlocks areBits checkCall runOn runPlan decided written lentAfter Own.carriagesOf sent Own.given received own1 ownGather ownCompare own5 own6 commit11 commit12 commit13 commit14 committed first isEnd placed stands opened nextBlock nextKind next siteOf fromBlock blockOf startOn valuesDue askOn commitOn startCall askCall commitCall turns delivered besideTurn besideOver startBeside shownBeside
-computed = (refl, (refl, (refl, (refl, (refl, (refl, (refl, (refl, (refl, (refl, (refl, (refl, (refl, (refl, (refl, (refl, (refl, (refl, (refl, (refl, (refl, (refl, (refl, (refl, (refl, (refl, (refl, (refl, (refl, (refl, (refl, (refl, (refl, (refl, (refl, (refl, (refl, (refl, (refl, (refl, (refl, (refl, (refl, (refl, (refl, (refl, (refl, (refl, (refl, (refl, (refl, (refl, (refl, (refl, (refl, (refl, (refl, (refl, (refl, (refl, (refl, (refl, (refl, (refl, (refl, (refl, (refl, (refl, (refl, (refl, (refl, (refl, (refl, (refl, (refl, (refl, (refl, (refl, (refl, (refl, (refl, (refl, (refl, (refl, (refl, (refl, (refl, tt)))))))))))))))))))))))))))))))))))))))))))))))))))))))))))))))))))))))))))))))))))))))
+unfolding test sameList has single union meet minus within encode full count size firstIn lowest noLinks linkedIn withLink rowOf rowsFrom rowsOf sourcesTo outside weak headFits linkFits headAt linkAt endAt stepAt commands readCard someBelow incoming held rest isSplit isBad badAt firstFrom badWithSides badWithFaults firstBad splitTest oneWay linkTo others parts separates separable connectivity serversWanted awayWanted olderRule quickTest linkBytes cardBytes linksAmong ascending printCard cleanCard fitting printInto printedIn listFrom members isPart blocksOf blocksOfAll due fan toOne pairs routesDue path isFill filled serversOf goesOn isPath isRoute checkedRoute routeSet width isCut isDue routeAt checkGroup checkGroups allLinked isReport checkReports checkBlock checkBlocks checkEnd checkOn checkPlan operand encodeRoutes encodeReports encodeBlock encodeBlocks encodePlan sourcesFor pairsOf straight lowestOf outIn withStart withEnd withUse withoutUse withStep withoutStep lost reached changed feeder behind stepIn stepOut tries ahead enter seek seekAll lastIn linking flowBy trail cutOf separateRoutes Flow.routesOf holdsWeak meetsAll sideOf without thinned quorumOf routesTo fansTo meshOf reportTo blockWith planOf planBytes Plan.blockOf planFor Write.fitting writeInto writtenIn callFits operands answerFor routeInto routedIn routesAt reportsAt inwardDue amongDue outwardDue decodeBlock lengthOf decodeBlocks decodePlan reportCarriages carriagesOf relaysOf relayed routesOf planRoutes countsFrom loadOf loadCall hasRoute operandsFrom operandsIn placesOf placesIn hit read message brought heard all common valuesFrom values step1 gather compare step5 step6 runBlock runBlocks areBits checkCall runOn runPlan decided written lentAfter Own.carriagesOf sent Own.given received own1 ownGather ownCompare own5 own6 commit11 commit12 commit13 commit14 committed first isEnd placed stands opened nextBlock nextKind next siteOf fromBlock blockOf startOn valuesDue askOn commitOn startCall askCall commitCall turns delivered besideTurn besideOver startBeside shownBeside
+computed = (refl, (refl, (refl, (refl, (refl, (refl, (refl, (refl, (refl, (refl, (refl, (refl, (refl, (refl, (refl, (refl, (refl, (refl, (refl, (refl, (refl, (refl, (refl, (refl, (refl, (refl, (refl, (refl, (refl, (refl, (refl, (refl, (refl, (refl, (refl, (refl, (refl, (refl, (refl, (refl, (refl, (refl, (refl, (refl, (refl, (refl, (refl, (refl, (refl, (refl, (refl, (refl, (refl, (refl, (refl, (refl, (refl, (refl, (refl, (refl, (refl, (refl, (refl, (refl, (refl, (refl, (refl, (refl, (refl, (refl, (refl, (refl, (refl, (refl, (refl, (refl, (refl, (refl, (refl, (refl, (refl, (refl, (refl, (refl, (refl, (refl, (refl, (refl, (refl, (refl, (refl, (refl, (refl, (refl, (refl, (refl, (refl, (refl, (refl, (refl, (refl, (refl, tt))))))))))))))))))))))))))))))))))))))))))))))))))))))))))))))))))))))))))))))))))))))))))))))))))))))
 
 pub table-holds : (r : Row) → List·Memᴰ r table → Holds r
 table-holds r m = passing-each table computed r m

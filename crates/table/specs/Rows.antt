@@ -18,6 +18,9 @@ use Rattle.two_way.specs.Quick as Quick
 use Rattle.plan.specs.Check
 use Rattle.rules.specs.Blocks.{Carriage, Block, carriageOf, decodePlan}
 use Rattle.rules.specs.Theorems.{Accepted}
+use Rattle.planner.specs.Write.{Writing, broken, planFor, writeInto, writtenIn}
+use Rattle.planner.specs.Write as Write
+use Rattle.routes.specs.Routing.{Routing, routed, cutOff, unrouted, routeInto, routedIn}
 use Rattle.load.specs.Load.{Load, counted, loadCall}
 use Rattle.load.specs.Load as Load
 use Rattle.load.specs.Places.{placesIn}
@@ -59,6 +62,18 @@ abbrev pub totalsValues : Check.Totals → List ℕ
 totalsValues (Check.totals blocks carriages) = 1 ∷ blocks ∷ carriages ∷ []
 totalsValues (Check.turned r) = 0 ∷ refusedValues r
 
+-- 1 and the number of bytes; 2, the refusal and F, L, C, R; or 0 and the refusal
+abbrev pub writeValues : Writing → List ℕ
+writeValues (Write.wrote bytes) = 1 ∷ bytes ∷ []
+writeValues (broken refusal f l c r) = 2 ∷ refusedValues refusal ++ (f ∷ l ∷ c ∷ r ∷ [])
+writeValues (Write.unwritten r) = 0 ∷ refusedValues r
+
+-- 1 and the number of routes; 2 and the servers that cut every route off; or 0 and the refusal
+abbrev pub routeValues : Routing → List ℕ
+routeValues (routed count) = 1 ∷ count ∷ []
+routeValues (cutOff servers) = 2 ∷ servers ∷ []
+routeValues (unrouted r) = 0 ∷ refusedValues r
+
 -- 1 and the eight counts; or 0 and the refusal
 abbrev pub loadValues : Load → List ℕ
 loadValues (counted counts) = 1 ∷ counts
@@ -88,6 +103,8 @@ pub data Call : Type 0 where
   splits : (card : List ℕ) → Call
   quicks : (card : List ℕ) → Call
   checks : (card plan : List ℕ) → Call
+  writes : (card lent : List ℕ) → Call
+  separates : (card : List ℕ) → (faults sources receiver : ℕ) → (lent : List ℕ) → Call
   loads : (card plan : List ℕ) → Call
   places : (plan : List ℕ) → Call
   runs : (card plan inputs : List ℕ) → (faulty : ℕ) → (table lent : List ℕ) → Call
@@ -98,13 +115,15 @@ pub data Call : Type 0 where
   gathers : (faulty : ℕ) → (table : List ℕ) → (carriages : List Carriage) → (receivers : ℕ) → (t : List ℕ) → Call
   compares : (faulty : ℕ) → (table : List ℕ) → (carriages : List Carriage) → (quorum : ℕ) → (t : List ℕ) → Call
 
--- what it gives by the definitions; a card that is printed, a run and an ask give the lent bytes too
+-- what it gives by the definitions; a card that is printed, a plan that is written, separate routes, a run and an ask give the lent bytes too
 abbrev pub given : Call → List ℕ
 given (reads s) = headValues (headOf (readCard s))
 given (prints s lent) = printValues (printInto s lent) ++ printedIn s lent
 given (splits s) = splitValues (splitTest s)
 given (quicks s) = quickValues (quickTest s)
 given (checks s p) = totalsValues (Check.checkPlan s p)
+given (writes s lent) = writeValues (writeInto s lent) ++ writtenIn s lent
+given (separates s F sources r lent) = routeValues (routeInto s F sources r lent) ++ routedIn s F sources r lent
 given (loads s p) = loadValues (loadCall s p)
 given (places p) = placesIn p ∷ []
 given (runs s p inputs faulty table lent) = totalsValues (runPlan s p inputs faulty lent) ++ lentAfter s p inputs faulty table lent
@@ -170,6 +189,14 @@ P4-twins =
     0x01 ∷ 0x04 ∷ 0x01
     ∷ (linksFrom 0 (1 ∷ 2 ∷ 3 ∷ []) ++ linksFrom 1 (0 ∷ 2 ∷ 3 ∷ []) ++ linksFrom 2 (0 ∷ 1 ∷ 3 ∷ []) ++ linksFrom 3 (0 ∷ 1 ∷ 2 ∷ [])
     ++ linksFrom 0 (1 ∷ 2 ∷ 3 ∷ []) ++ linksFrom 1 (0 ∷ 2 ∷ 3 ∷ []) ++ linksFrom 2 (0 ∷ 1 ∷ 3 ∷ []) ++ linksFrom 3 (0 ∷ 1 ∷ 2 ∷ []) ++ 0x03 ∷ [])
+
+-- four servers, f 1: from 0 to 3 over 1 and over 2
+abbrev pub two-ways-card : List ℕ
+two-ways-card = 0x01 ∷ 0x04 ∷ 0x01 ∷ (linksFrom 0 (1 ∷ 2 ∷ []) ++ linksFrom 1 (3 ∷ []) ++ linksFrom 2 (3 ∷ []) ++ 0x03 ∷ [])
+
+-- the same, but from 0 and 1 to 3 over 2 alone
+abbrev pub narrow-card : List ℕ
+narrow-card = 0x01 ∷ 0x04 ∷ 0x01 ∷ (linksFrom 0 (2 ∷ []) ++ linksFrom 1 (2 ∷ []) ++ linksFrom 2 (3 ∷ []) ++ 0x03 ∷ [])
 
 abbrev pub opening : ℕ → ℕ → ℕ → List ℕ
 opening F A S = 0x10 ∷ F ∷ A ∷ S ∷ []
@@ -275,6 +302,23 @@ table =
     ∷ row "an empty card is refused 2 at place 0" (reads []) (0 ∷ 0 ∷ 2 ∷ 0 ∷ [])
     ∷ row "P5 is accepted: 1 block, 1 carriage" (checks P1-card P5-plan) (1 ∷ 1 ∷ 1 ∷ [])
     ∷ row "P6 is refused 7 at place 4, since a 11 route is due" (checks P1-card P6-plan) (0 ∷ 1 ∷ 7 ∷ 4 ∷ [])
+    ∷ row "the plan written for P1 is that of P5, and later bytes are untouched" (writes P1-card (replicate 16 9)) (1 ∷ 14 ∷ P5-plan ++ (9 ∷ 9 ∷ []))
+    ∷ row "for three servers in a row every S is server 0" (writes line-card (replicate 67 9)) (1 ∷ 67 ∷ line-plan)
+    ∷ row "the plan for P4 is accepted: 19 blocks, 114 carriages" (checks P4-card (planFor P4-card)) (1 ∷ 19 ∷ 114 ∷ [])
+    ∷ row "it has 923 bytes" (writes P4-card (replicate 923 9)) (1 ∷ 923 ∷ planFor P4-card)
+    ∷ row "one byte lent less than the plan has is 18, and changes none" (writes P1-card (replicate 13 9)) (0 ∷ 2 ∷ 18 ∷ replicate 13 9)
+    ∷ row "P2 has no plan: 17 with F 0, L 1, C 0, R 2, before 18" (writes P2-card (9 ∷ [])) (2 ∷ 2 ∷ 17 ∷ 0 ∷ 1 ∷ 0 ∷ 2 ∷ 9 ∷ [])
+    ∷ row "P3 has no plan: 17 with F 1, L 2, C 0, R 4" (writes P3-card []) (2 ∷ 2 ∷ 17 ∷ 1 ∷ 2 ∷ 0 ∷ 4 ∷ [])
+    ∷ row "of an empty card no plan is written: 2 at place 0" (writes [] (9 ∷ [])) (0 ∷ 0 ∷ 2 ∷ 0 ∷ 9 ∷ [])
+    ∷ row "two routes from 0 and 1 to 3 are separate, and later bytes are untouched"
+    (separates two-ways-card 0 3 3 (replicate 17 9))
+    (1 ∷ 2 ∷ 0x00 ∷ 0x02 ∷ 0x03 ∷ 0xff ∷ 0xff ∷ 0xff ∷ 0xff ∷ 0xff ∷ 0x01 ∷ 0x03 ∷ 0xff ∷ 0xff ∷ 0xff ∷ 0xff ∷ 0xff ∷ 0xff ∷ 9 ∷ [])
+    ∷ row "every route from 0 to 3 meets 0" (separates two-ways-card 0 1 3 (9 ∷ [])) (2 ∷ 1 ∷ 9 ∷ [])
+    ∷ row "without 2 every route from 0 and 1 to 3 meets 1" (separates two-ways-card 4 3 3 (9 ∷ [])) (2 ∷ 2 ∷ 9 ∷ [])
+    ∷ row "a relay that all routes share is met: 2" (separates narrow-card 0 3 3 (replicate 16 9)) (2 ∷ 4 ∷ replicate 16 9)
+    ∷ row "two faulty servers are 13 at f 1" (separates two-ways-card 3 4 3 []) (0 ∷ 2 ∷ 13 ∷ [])
+    ∷ row "one byte lent less than two routes have is 14, and changes none" (separates two-ways-card 0 3 3 (replicate 15 9)) (0 ∷ 2 ∷ 14 ∷ replicate 15 9)
+    ∷ row "an empty card comes before the sets" (separates [] 7 0 9 []) (0 ∷ 0 ∷ 2 ∷ 0 ∷ [])
     ∷ row "server 1 relays a route in each block, and no source or receiver relays one" (loads line-card line-plan) (1 ∷ 0 ∷ 3 ∷ 0 ∷ 0 ∷ 0 ∷ 0 ∷ 0 ∷ 0 ∷ [])
     ∷ row "so its bytes have three relaying places" (places line-plan) (3 ∷ [])
     ∷ row "the members of N relay nothing" (loads P4-card P4-plan) (1 ∷ 0 ∷ 0 ∷ 0 ∷ 0 ∷ 0 ∷ 0 ∷ 0 ∷ 0 ∷ [])
