@@ -7,6 +7,14 @@
 # 128 bytes below the stack pointer, the ABI's red zone. What does not fit this account is an error:
 # a call out of the archive or through a register, a function that reaches itself, any other change
 # of the stack pointer. So is a bound over the limit.
+#
+# The functions that `cycle` names, with spaces between them, may reach each other: their allowance
+# falls at each call, so that no more than `allowance` + 1 of them are open at a time. They need as
+# many times the largest of their frames, and the deepest of the functions outside the cycle.
+BEGIN {
+    count = split(cycle, names, " ")
+    for (n = 1; n <= count; n++) member[names[n]] = 1
+}
 function wrong(where, what) {
     print "stack: " where ": " what
     bad = 1
@@ -21,6 +29,7 @@ function hex(digits,    i, value, negative) {
 }
 function bound(f,    deepest, i, callee, b) {
     if (f in known) return known[f]
+    if (f in member) return known[f] = around()
     if (f in open) {
         wrong(f, "it reaches itself")
         return 0
@@ -38,6 +47,25 @@ function bound(f,    deepest, i, callee, b) {
     }
     delete open[f]
     return known[f] = 8 + frame[f] + deepest
+}
+# What the cycle needs, entered anywhere.
+function around(    f, i, callee, b, largest, deepest) {
+    deepest = 128
+    for (f in member) {
+        if (!(f in frame)) continue
+        if (8 + frame[f] > largest) largest = 8 + frame[f]
+        for (i = 1; i <= calls[f]; i++) {
+            callee = called[f, i]
+            if (callee in member) continue
+            if (!(callee in frame)) {
+                wrong(f, "it calls " callee ", which is not in the archive")
+                continue
+            }
+            b = bound(callee)
+            if (b > deepest) deepest = b
+        }
+    }
+    return (allowance + 1) * largest + deepest
 }
 function add(callee) {
     called[name, ++calls[name]] = callee
@@ -87,7 +115,7 @@ END {
     if (resolved != "") add(resolved)
     for (f in frame) if (f ~ /^agreement_/) {
         most = bound(f)
-        printf "%-22s needs at most %4d bytes of stack\n", f, most | "sort"
+        printf "%-25s needs at most %5d bytes of stack\n", f, most | "sort"
         if (most > limit) wrong(f, "more than AGREEMENT_STACK, " limit " bytes")
         found++
     }
