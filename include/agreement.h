@@ -178,9 +178,9 @@ enum {
  * The bytes of stack that a call needs at most. The frames along the calls in the archive add up to
  * 10,960 bytes at the deepest, in agreement_write_plan: the search for separate routes calls itself,
  * with an allowance that falls at each call, and the bound counts as many frames as the allowance
- * has. Calls but this one and agreement_separate_routes need 1,632 bytes at most. No call on the
- * example sites or on damaged versions of them was measured to use more. `sh tools/stack` does both
- * again.
+ * has. agreement_separate_routes needs nearly as much, the other calls a sixth of it or less. No call
+ * on the example sites or on damaged versions of them was measured to use more. `sh tools/stack`
+ * does both again, for each call.
  */
 #define AGREEMENT_STACK 12288
 

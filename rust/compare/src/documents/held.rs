@@ -47,7 +47,7 @@ const NOT_HELD: [&str; 32] = [
     "(UINT64_C(№) * AGREEMENT_VERSION_MAJOR + UINT64_C(№) *",
     "№ * major + № * minor + patch.",
     "AGREEMENT_STACK №",
-    "№ bytes at the deepest, in agreement_run;",
+    "№ bytes at the deepest, in agreement_write_plan:",
 ];
 
 /// The numbers that can be changed without any check noticing, but for those that

@@ -1,5 +1,5 @@
-//! The plan writer and separate routes, as docs/FORMATS.md tells of them, beside what the library
-//! answers.
+//! The plan writer and separate routes, as docs/FORMATS.md and docs/THEOREMS.md tell of them,
+//! beside what the library answers.
 
 use super::commands::route_operand;
 use super::examples::bytes;
@@ -124,5 +124,13 @@ pub fn stated(documents: &Documents) -> Held {
         format!("{} bytes for each, as a plan has them.", route_operand()),
         format!("then {strangers}, where the faulty set has more than f servers,"),
         format!("then {buffer}, where routes are found and the buffer is shorter than they are."),
+    ])?;
+    documents.theorems.says_all(&[
+        format!(
+            "the card's, then {bad_split} with the first bad split, then {short}; and every byte"
+        ),
+        format!("or the refusal, the card's, then {strangers}, then {buffer}; and every byte"),
+        format!("{bad_split} with the first bad split exactly when there is one, then {short}.*"),
+        format!("| refused {bad_split} with a split exactly if the split test reports that split,"),
     ])
 }
