@@ -4,7 +4,7 @@ ghost use Prim.Native.Nat.{_≤_};
 ghost use Rattle.blocks.specs.Written.{Put};
 
 // One byte; the place after it.
-pub fn put_byte(part: &mut [u8], at: usize, byte: u8) -> usize
+pub(crate) fn put_byte(part: &mut [u8], at: usize, byte: u8) -> usize
     requires { ⌜ at ≤ 1048576 ⌝ }
     ensures { λ r. ⌜ Put at (byte ∷ []) 1 (now (part .entry)) (now (part .exit)) r ⌝ }
 {
@@ -15,7 +15,7 @@ pub fn put_byte(part: &mut [u8], at: usize, byte: u8) -> usize
 }
 
 // The head of a block, from the start on: 16, F, A and S; the place after it.
-pub fn put_head(part: &mut [u8], fault: u8, side: u8, quorum: u8) -> usize
+pub(crate) fn put_head(part: &mut [u8], fault: u8, side: u8, quorum: u8) -> usize
     ensures { λ r. ⌜ Put 0 (16 ∷ fault ∷ side ∷ quorum ∷ []) 4 (now (part .entry)) (now (part .exit)) r ⌝ }
 {
     let a = put_byte(&mut *part, 0, 16);
@@ -25,7 +25,7 @@ pub fn put_head(part: &mut [u8], fault: u8, side: u8, quorum: u8) -> usize
 }
 
 // A route command and the eight bytes of its operand; the place after them.
-pub fn put_route(part: &mut [u8], start: usize, command: u8, route: [u8; 8]) -> usize
+pub(crate) fn put_route(part: &mut [u8], start: usize, command: u8, route: [u8; 8]) -> usize
     requires { ⌜ start ≤ 1000000 ⌝ }
     ensures { λ r. ⌜ Put start (command ∷ route) 9 (now (part .entry)) (now (part .exit)) r ⌝ }
 {

@@ -21,7 +21,7 @@ fn put_report(part: &mut [u8], start: usize, near: u8, count: u8, sound: u8, rec
 }
 
 // The reports of 14: one to each server of F.
-pub fn put_reports(
+pub(crate) fn put_reports(
     part: &mut [u8],
     start: usize,
     sources: &[u8; 8],

@@ -32,7 +32,7 @@ fn put_routes(part: &mut [u8], start: usize, command: u8, flow: Flow, receiver: 
 }
 
 // The routes of 13: `count` from S to each other server of `sound`.
-pub fn put_fans(
+pub(crate) fn put_fans(
     part: &mut [u8],
     start: usize,
     rows: &[u8; 8],
@@ -91,7 +91,7 @@ fn put_to_one(
 }
 
 // The routes of 12: one for each server of S and each other one as its source.
-pub fn put_mesh(
+pub(crate) fn put_mesh(
     part: &mut [u8],
     start: usize,
     rows: &[u8; 8],

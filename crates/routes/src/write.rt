@@ -44,7 +44,7 @@ fn lay_routes(flow: Flow, receiver: u8, lent: &mut [u8])
 }
 
 // The routes of the flow, if the lent buffer has room for them.
-pub fn write_routes(flow: Flow, receiver: u8, lent: &mut [u8]) -> Routed
+pub(crate) fn write_routes(flow: Flow, receiver: u8, lent: &mut [u8]) -> Routed
     ensures { λ r. ⌜ (routingOf r ≡ answerTo (size (flow .start)) (routes (routesOf flow receiver)) (now (lent .entry))) × (now (lent .exit) ≡ afterRoutes (routingOf r) (operands (routesOf flow receiver)) (now (lent .entry))) ⌝ }
 {
     let room = lent.len();

@@ -81,7 +81,7 @@ fn step_out(flow: Flow, x: u8, y: u8) -> Flow
 }
 
 // Nothing found: the flow as it is, and the sides seen.
-pub fn lost(flow: Flow, entered: u8, left: u8) -> Sought
+pub(crate) fn lost(flow: Flow, entered: u8, left: u8) -> Sought
     ensures { λ r. ⌜ r ≡ lost flow entered left ⌝ }
 {
     Sought {
@@ -93,7 +93,7 @@ pub fn lost(flow: Flow, entered: u8, left: u8) -> Sought
 }
 
 // The receiver reached from x.
-pub fn ended(flow: Flow, entered: u8, left: u8, x: u8) -> Sought
+pub(crate) fn ended(flow: Flow, entered: u8, left: u8, x: u8) -> Sought
     ensures { λ r. ⌜ r ≡ reached (withEnd x flow) entered left ⌝ }
 {
     let ending = with_end(flow, x);
@@ -106,7 +106,7 @@ pub fn ended(flow: Flow, entered: u8, left: u8, x: u8) -> Sought
 }
 
 // A route straight to the receiver from each of these servers: the flow before a route is sought.
-pub fn straight(servers: u8) -> Sought
+pub(crate) fn straight(servers: u8) -> Sought
     ensures { λ r. ⌜ r ≡ reached (straight servers) 0 0 ⌝ }
 {
     let flow = Flow {
@@ -124,7 +124,7 @@ pub fn straight(servers: u8) -> Sought
 }
 
 // What was found, with the step into x before it.
-pub fn stepped_in(mut s: Sought, x: u8, q: u8) -> Sought
+pub(crate) fn stepped_in(mut s: Sought, x: u8, q: u8) -> Sought
     ensures { λ r. ⌜ r ≡ changed (stepIn x q) s ⌝ }
 {
     if s.found {
@@ -135,7 +135,7 @@ pub fn stepped_in(mut s: Sought, x: u8, q: u8) -> Sought
 }
 
 // What was found, with the step from x to y before it.
-pub fn stepped_out(mut s: Sought, x: u8, y: u8) -> Sought
+pub(crate) fn stepped_out(mut s: Sought, x: u8, y: u8) -> Sought
     ensures { λ r. ⌜ r ≡ changed (stepOut x y) s ⌝ }
 {
     if s.found {
@@ -146,7 +146,7 @@ pub fn stepped_out(mut s: Sought, x: u8, y: u8) -> Sought
 }
 
 // What was found from the source x on, as a route that starts there.
-pub fn started(mut s: Sought, x: u8) -> Sought
+pub(crate) fn started(mut s: Sought, x: u8) -> Sought
     ensures { λ r. ⌜ r ≡ changed (withStart x) s ⌝ }
 {
     if s.found {

@@ -16,7 +16,7 @@ fn feeder(flow: Flow, x: u8) -> u8
 }
 
 // The server to whose leaving side the entry side of x leads; 8 if x is where its route starts.
-pub fn behind(flow: Flow, x: u8) -> u8
+pub(crate) fn behind(flow: Flow, x: u8) -> u8
     ensures { λ r. ⌜ r ≡ behind flow x ⌝ }
 {
     if sets::member(flow.used, x) {
@@ -27,7 +27,7 @@ pub fn behind(flow: Flow, x: u8) -> u8
 
 // Those near r that a route may pass before it: the other servers of `within`; none if r is not in
 // `within` itself.
-pub fn last_in(near: u8, within: u8, r: u8) -> u8
+pub(crate) fn last_in(near: u8, within: u8, r: u8) -> u8
     ensures { λ s. ⌜ s ≡ lastIn near within r ⌝ }
 {
     if sets::member(within, r) {

@@ -6,7 +6,7 @@ ghost use lib.ListN.{length, take, drop};
 ghost use Rattle.facts.specs.Laid.{laid};
 
 // The opening of a block.
-pub fn put_opening(lent: &mut [u8], at: usize, fault: u8, side: u8, quorum: u8)
+pub(crate) fn put_opening(lent: &mut [u8], at: usize, fault: u8, side: u8, quorum: u8)
     requires { ⌜ at + 4 ≤ length (now lent) ⌝ }
     ensures { λ r. ⌜ now (lent .exit) ≡ laid at (16 ∷ fault ∷ side ∷ quorum ∷ []) (now (lent .entry)) ⌝ }
 {
@@ -17,7 +17,7 @@ pub fn put_opening(lent: &mut [u8], at: usize, fault: u8, side: u8, quorum: u8)
 }
 
 // So many bytes from one place to a later one.
-pub fn put_again(lent: &mut [u8], from: usize, at: usize, bytes: usize)
+pub(crate) fn put_again(lent: &mut [u8], from: usize, at: usize, bytes: usize)
     requires { ⌜ (from + bytes ≤ at) × (at + bytes ≤ length (now lent)) ⌝ }
     ensures { λ r. ⌜ now (lent .exit) ≡ laid at (take bytes (drop from (now (lent .entry)))) (now (lent .entry)) ⌝ }
 {

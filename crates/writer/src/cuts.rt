@@ -83,7 +83,7 @@ fn put_one(
 }
 
 // The blocks of one F, by the part of V−F that holds its lowest server, ascending; the place after them.
-pub fn put_cuts(
+pub(crate) fn put_cuts(
     lent: &mut [u8],
     start: usize,
     n: u8,

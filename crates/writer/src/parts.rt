@@ -3,7 +3,7 @@ ghost use mathlib.Core.Path.{_≡_};
 ghost use Rattle.plan.specs.Due.{isPart};
 
 // The part holds the lowest server of `sound`, lies within it and is not all of it.
-pub fn is_part(sound: u8, part: u8) -> bool
+pub(crate) fn is_part(sound: u8, part: u8) -> bool
     ensures { λ r. ⌜ r ≡ isPart sound part ⌝ }
 {
     if sets::within(part, sound) {
