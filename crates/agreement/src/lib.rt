@@ -1,5 +1,7 @@
 // The C interface: a static library that a server in C or Rust links. Every answer is a row of
 // words that the caller lends and this library fills; no call asks anything of its arguments.
+#![tactic(auto)]
+
 ghost use Rattle.std.specs.Prelude.{◌≡◌};
 ghost use Rattle.network.specs.Card.{read_card};
 ghost use Rattle.split.specs.Split.{split_test};

@@ -1,4 +1,6 @@
 // One block of a plan as it is written into lent memory.
+#![tactic(auto)]
+
 mod bytes;
 mod reports;
 mod routes;

@@ -20,6 +20,8 @@
 //     a CARD PLAN SERVER STATE BUFFER          the words of its ask, and the lent bytes after it
 //     m CARD PLAN SERVER STATE ARRIVED         the words of its commit
 // A state is its five words, three bytes each, high byte first.
+#![tactic(auto)]
+
 ghost use Rattle.std.specs.Prelude.{◌≤◌, length};
 
 use libc::{STDIN_FILENO, STDOUT_FILENO};

@@ -1,5 +1,7 @@
 // The planner's choice for a block: which part of a cut is A, and which servers of it are S.
 // For one F a table says which sets hold a weak set; the choices look it up.
+#![tactic(auto)]
+
 ghost use Rattle.std.specs.Prelude.{◌≡◌, ◌||◌, ℕ, ◌^◌, ◌≤◌, ◌<◌, leb};
 ghost use Rattle.sets.specs.Sets.{full, minus};
 ghost use Rattle.network.specs.Links.{Links};

@@ -1,5 +1,6 @@
 // Separate routes to one receiver, as a flow: what a flow is, the search for one route more, and the
 // routes of a flow. The crate has the two records that the code hands about, and no function.
+#![tactic(auto)]
 
 // A flow, one unit to a route. A set of servers is one byte.
 #[derive(Drop)]

@@ -1,5 +1,7 @@
 // How many bytes the plan has that is written for a network: the same for all networks of n servers and
 // the fault bound f that a plan is written for.
+#![tactic(auto)]
+
 ghost use Rattle.std.specs.Prelude.{◌≡◌};
 ghost use Rattle.lengths.specs.Length.{Length};
 

@@ -1,5 +1,7 @@
 // The load on each relay: how many routes of an accepted plan each server relays, neither as source
 // nor as receiver.
+#![tactic(auto)]
+
 ghost use Rattle.std.specs.Prelude.{◌≡◌, cond, ℕ, ◌≤◌, eqb, length, take, drop};
 ghost use Rattle.load.specs.Places.{has_route};
 ghost use Rattle.load.specs.Tally.{between, Room, Adds, Tallies};

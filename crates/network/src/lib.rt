@@ -1,3 +1,5 @@
 // The network of a card: the card reader and the links.
+#![tactic(auto)]
+
 pub mod card;
 pub mod links;

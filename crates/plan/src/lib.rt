@@ -1,2 +1,4 @@
 // The route plan: order of blocks, block check, plan check.
+#![tactic(auto)]
+
 pub mod check;

@@ -1,5 +1,7 @@
 // The clean card of a network, written into lent memory: the head, the links ascending by u, then
 // by v, and the end.
+#![tactic(auto)]
+
 ghost use Rattle.std.specs.Prelude.{◌≡◌, ◌+◌, ◌≤◌, length};
 ghost use Rattle.facts.specs.Laid.{laid};
 ghost use Rattle.printer.specs.Print.{link_bytes, ascending, print_card, fitting, after_print};

@@ -1,5 +1,7 @@
 // What a call is turned back with. The outer enum names what is at fault: the card, the plan or
 // the call. The inner enums name the ground, and hold the place of the command byte at fault.
+#![tactic(auto)]
+
 ghost use Rattle.std.specs.Prelude.{◌≡◌};
 ghost use Rattle.refusal.specs.Refused.{refusal_of, whose_of, number_of, place_of};
 

@@ -1,5 +1,7 @@
 // Reads network.card, network.plan and run.in from the folder that it is run in, and prints the
 // transcript of the run. A file that is not there counts as empty.
+#![tactic(auto)]
+
 ghost use Rattle.io.specs.Counts.{IsPrefixLen};
 
 use libc::STDOUT_FILENO;

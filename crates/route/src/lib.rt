@@ -1,5 +1,7 @@
 // The commands of a plan and the route check: a route's operand is eight bytes, the servers from the
 // source to the receiver and then the fill.
+#![tactic(auto)]
+
 pub mod command;
 
 ghost use Rattle.std.specs.Prelude.{◌≡◌, cond, ◌+◌, ◌*◌, ◌≤◌, eqb, length, take};

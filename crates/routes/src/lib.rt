@@ -1,5 +1,7 @@
 // Separate routes between the servers of a card: so many that f faulty servers leave one of them
 // clear, written into lent memory; or the few servers that every route meets.
+#![tactic(auto)]
+
 mod write;
 
 ghost use Rattle.std.specs.Prelude.{◌≡◌, ◌+◌, ◌≤◌, ◌<◌};

@@ -1,4 +1,6 @@
 // A set of servers is one byte: server i stands for 2^i.
+#![tactic(auto)]
+
 mod size_table;
 
 ghost use Rattle.std.specs.Prelude.{◌≡◌, min};

@@ -1,4 +1,6 @@
 // The split test: the first bad split of V into F, L, C, R, or none.
+#![tactic(auto)]
+
 pub mod sources;
 
 ghost use Rattle.std.specs.Prelude.{◌≡◌, ℕ, ◌≤◌, ◌<◌, ◌^◌, leb};

@@ -1,5 +1,7 @@
 // What `rehearse` prints, as bytes in a lent buffer. A buffer that is too short takes the bytes that
 // fit; the answer is how many the whole text has.
+#![tactic(auto)]
+
 ghost use Rattle.std.specs.Prelude.{◌≡◌, cond, ◌≤◌, ◌<◌, eqb, length, replicate};
 ghost use Rattle.refusal.specs.Refused.{refusal_of};
 ghost use Rattle.network.specs.Card.{read_card};

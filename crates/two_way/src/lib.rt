@@ -1,5 +1,7 @@
 // The quick test for sites whose links all have a return, by the older rule: n is at least 3f + 1, and
 // at least 2f + 1 servers must be taken away before the rest falls apart.
+#![tactic(auto)]
+
 ghost use Rattle.std.specs.Prelude.{◌≡◌, false, ℕ, ◌^◌, ◌≤◌, ◌<◌};
 ghost use Rattle.sets.specs.Sets.{full};
 ghost use Rattle.network.specs.Links.{Links};

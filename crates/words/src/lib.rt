@@ -1,5 +1,7 @@
 // The words of each answer of the library: from an answer, as the calls give it, to the row of words
 // that a caller without our enums gets. The first word is 0 answered, 1 a bad split, 2 refused.
+#![tactic(auto)]
+
 ghost use Rattle.std.specs.Prelude.{◌≡◌, [], ◌∷◌, ◌++◌};
 ghost use Rattle.refusal.specs.Refused.{refusal_of};
 ghost use Rattle.network.specs.Card.{network, refused};
