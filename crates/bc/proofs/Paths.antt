@@ -33,10 +33,13 @@ some_witness X (s ∷ ss) e =
     (λ q. (s, Memᴰ.head refl, q))
     (λ q. let h : some X ss ≡ true = rw q at e in let w = some_witness X ss h in (w.0, Memᴰ.tail w.1, w.2))
 
-pub some_member : (X : Set) (l : List ℕ) (s : ℕ) → Memᴰ s l → In X s → some X l ≡ true
+some_has : (X : Set) (s : ℕ) (l : List ℕ) → Memᴰ s l → In X s → some X l ≡ true
 unfolding some
-some_member X l s (Memᴰ.head {x} {xs} e) q = cc
-some_member X l s (Memᴰ.tail {x} {xs} m) q = let ih = some_member X xs s m q in cases (X x) (λ a. cc) (λ a. cc)
+some_has X s l (Memᴰ.head {x} {xs} e) q = cc
+some_has X s l (Memᴰ.tail {x} {xs} m) q = let ih = some_has X s xs m q in cases (X x) (λ a. cc) (λ a. cc)
+
+pub some_member : (X : Set) (l : List ℕ) (s : ℕ) → Memᴰ s l → In X s → some X l ≡ true
+some_member X l s = some_has X s l
 
 pub pigeon : (n : ℕ) (X : Set) (ps : List Path) → AllApart ps → Each (λ p. Each (λ s. s < n) (on_way p)) ps
     → Each (λ p. some X (on_way p) ≡ true) ps → length ps ≤ count n X
@@ -73,10 +76,13 @@ clear_one n f X F P ps h d = go (find_clear X ps)
     go (inl w) = w
     go (inr a) = let e = pigeon n X ps d.apart (λ p m. (d.paths p m).servers) a in let l = d.enough in absurd (omega arith)
 
-pub all_are_each : (a : ℕ) (l : List ℕ) → all_are a l ≡ true → (y : ℕ) → Memᴰ y l → y ≡ a
+all_are_one : (a y : ℕ) (l : List ℕ) → all_are a l ≡ true → Memᴰ y l → y ≡ a
 unfolding all_are
-all_are_each a l e y (Memᴰ.head {x} {xs} q) = let t : eqb x a ≡ true = search bools in q ∙ eqb-true x a t
-all_are_each a l e y (Memᴰ.tail {x} {xs} m) = all_are_each a xs (search bools) y m
+all_are_one a y l e (Memᴰ.head {x} {xs} q) = let t : eqb x a ≡ true = search bools in q ∙ eqb-true x a t
+all_are_one a y l e (Memᴰ.tail {x} {xs} m) = all_are_one a y xs (search bools) m
+
+pub all_are_each : (a : ℕ) (l : List ℕ) → all_are a l ≡ true → (y : ℕ) → Memᴰ y l → y ≡ a
+all_are_each a l e y m = all_are_one a y l e m
 
 pub agreed_cases : (Q : ℕ → Type 0) (l : List ℕ) → Q 2 → (y : ℕ) → Memᴰ y l → Q y → Q (agreed l)
 unfolding agreed
