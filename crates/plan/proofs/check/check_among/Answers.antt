@@ -1,0 +1,27 @@
+-- `plan::check::check_among` meets its contract. Assumes nothing.
+use mathlib.Core.Path.{◌≡◌, ap, ◌∙◌}
+use Prim.Native.Nat.{ℕ}
+use native.Mathlib.Omega.{arith}
+use borrow.Author.Rules.{rules}
+use lib.ListN.{length}
+use Rattle.sets.specs.Sets.{minus, full}
+use Rattle.network.specs.Rows.{links_of}
+use Rattle.plan.specs.Members.{members}
+use Rattle.plan.specs.Due.{fan, pairs}
+use Rattle.plan.specs.Check.{Progress, and_then, check_groups, check_reports}
+use Rattle.plan.specs.Answers.{progressOf}
+use Rattle.plan.proofs.Parts.{halts_then, moves_then, sound_is}
+use Rattle.plan.proofs.Bounds.{pairs_bound, code_bound}
+use Rattle.plan.proofs.check.check_among.Goals as goal
+
+pub check_outward-requires : goal.check_outward-requires
+check_outward-requires c =
+    let sound : (let a = c.args in c.minus-sound.result ≡ minus (full a.n) a.fault) = let s = c in sound_is s.args.n s.args.fault _ _ s.requires.0 c.full.ensures c.minus-sound.ensures in
+    let among : (let a = c.args in
+    progressOf c.check_pairs-among.result ≡ check_groups (minus (full a.n) a.fault) (links_of a.rows.now) a.block.now (pairs (members a.quorum) (members a.quorum)) a.start a.before) = let a = c.args in
+    c.check_pairs-among.ensures ∙ ap (λ (W : ℕ). check_groups W (links_of a.rows.now) a.block.now (pairs (members a.quorum) (members a.quorum)) a.start a.before) sound in
+    let b = c in
+    let s = b in
+    let a = s.args in
+    let x = code_bound 1 (length a.block.now) _ (pairs_bound (minus (full a.n) a.fault) (links_of a.rows.now) a.block.now (members a.quorum) (members a.quorum) a.start a.before s.requires.2 (omega arith)) _ among _ _ c.in-Reached.is in
+    (s.requires.0, omega arith, x.0)
