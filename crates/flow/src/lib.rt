@@ -3,7 +3,7 @@
 #![tactic(auto)]
 
 // A flow, one unit to a route. A set of servers is one byte.
-#[derive(Drop)]
+#[derive(Clone, Copy, Drop)]
 pub struct Flow {
     // The servers that some route passes.
     pub used: u8,

@@ -5,10 +5,11 @@
 --     received_cons    a byte in front moves the later ones by one place
 --     message_given    what a sound way brings is what the source gave
 --     heard_sources    what is heard depends on what the sources hold
+--     received_to and the five after it: what one carriage adds, to the server or past it
 --     delivered_heard  each arrival, as the server reads it, is what the run brings
 -- Assumes nothing.
-use mathlib.Core.Path.{◌≡◌, refl, ap, ap₂, ◌∙◌}
-use mathlib.Core.Bool.{cond}
+use mathlib.Core.Path.{◌≡◌, refl, sym, ap, ap₂, ◌∙◌}
+use mathlib.Core.Bool.{cond, true, false}
 use mathlib.Core.List.Memᴰ
 use mathlib.Core.List.{List, [], ◌∷◌}
 use Prim.Native.Nat.{ℕ, suc, ◌≤◌, ◌<◌}
@@ -76,11 +77,43 @@ heard_sources X table k x y (c ∷ cs) r h =
     let e = h c (Memᴰ.head refl) in
     cases (eqb c.receiver r) (λ q. cc) (λ q. cc)
 
+-- one carriage, to the server or past it
+
+received_to : (a : List ℕ) (j r : ℕ) (c : Carriage) (cs : List Carriage) → eqb c.receiver r ≡ true
+    → received a j r (c ∷ cs) ≡ message a j ∷ received a (suc j) r cs
+unfolding received
+received_to a j r c cs q = rw q refl
+
+received_past : (a : List ℕ) (j r : ℕ) (c : Carriage) (cs : List Carriage) → eqb c.receiver r ≡ false → received a j r (c ∷ cs) ≡ received a j r cs
+unfolding received
+received_past a j r c cs q = rw q refl
+
+delivered_to : (X : ℕ) (table : List ℕ) (k : ℕ) (gave : ℕ → List ℕ) (c : Carriage) (cs : List Carriage) (r : ℕ) → eqb c.receiver r ≡ true
+    → delivered X table k gave (c ∷ cs) r
+    ≡ cond (hit X c.before) (get_or table k silence) (get_or (gave (source c)) 0 silence) ∷ delivered X table (suc k) (used (source c) gave) cs r
+unfolding delivered
+delivered_to X table k gave c cs r q = rw q refl
+
+delivered_past : (X : ℕ) (table : List ℕ) (k : ℕ) (gave : ℕ → List ℕ) (c : Carriage) (cs : List Carriage) (r : ℕ) → eqb c.receiver r ≡ false
+    → delivered X table k gave (c ∷ cs) r ≡ delivered X table (suc k) (used (source c) gave) cs r
+unfolding delivered
+delivered_past X table k gave c cs r q = rw q refl
+
+heard_to : (X : ℕ) (table : List ℕ) (k : ℕ) (x : ℕ → ℕ) (c : Carriage) (cs : List Carriage) (r : ℕ) → eqb c.receiver r ≡ true
+    → heard X table k x (c ∷ cs) r ≡ brought X table k x c ∷ heard X table (suc k) x cs r
+unfolding heard
+heard_to X table k x c cs r q = rw q refl
+
+heard_past : (X : ℕ) (table : List ℕ) (k : ℕ) (x : ℕ → ℕ) (c : Carriage) (cs : List Carriage) (r : ℕ) → eqb c.receiver r ≡ false
+    → heard X table k x (c ∷ cs) r ≡ heard X table (suc k) x cs r
+unfolding heard
+heard_past X table k x c cs r q = rw q refl
+
 -- the servers below n give x, each on its carriages, and every source is below n
 module _ (n X : ℕ) (table : List ℕ) (x : ℕ → ℕ) (small : (j : ℕ) → j < n → x j < 3) where
   pub delivered_heard : (cs : List Carriage) → Each (λ c. source c < n) cs → (k : ℕ) (gave : ℕ → List ℕ) → ((j : ℕ) → j < n → gave j ≡ given (x j) j cs)
       → (r : ℕ) → received (delivered X table k gave cs r) 0 r cs ≡ heard X table k x cs r
-  unfolding received delivered heard message
+  unfolding received delivered heard
   delivered_heard [] below k gave e r = refl
   delivered_heard (c ∷ cs) below k gave e r =
       let l = below c (Memᴰ.head refl) in
@@ -90,4 +123,9 @@ module _ (n X : ℕ) (table : List ℕ) (x : ℕ → ℕ) (small : (j : ℕ) →
       let own : y ≡ x (source c) = ap (λ (row : List ℕ). get_or row 0 silence) (e (source c) l) ∙ given_first (x (source c)) c cs in
       let first = message_given X table k x c y later (small (source c) l) own in
       let rest = received_cons (cond (hit X c.before) (get_or table k silence) y) later 0 r cs ∙ ih in
-      cases (eqb c.receiver r) (λ q. rw q (ap₂ (λ (z : ℕ) (zs : List ℕ). z ∷ zs) first rest)) (λ q. rw q ih)
+      cases (eqb c.receiver r)
+      (λ q. received_to (delivered X table k gave (c ∷ cs) r) 0 r c cs q
+      ∙ (ap (λ (a : List ℕ). message a 0 ∷ received a 1 r cs) (delivered_to X table k gave c cs r q)
+      ∙ (ap₂ (λ (z : ℕ) (zs : List ℕ). z ∷ zs) first rest ∙ sym (heard_to X table k x c cs r q))))
+      (λ q. received_past (delivered X table k gave (c ∷ cs) r) 0 r c cs q
+      ∙ (ap (λ (a : List ℕ). received a 0 r cs) (delivered_past X table k gave c cs r q) ∙ (ih ∙ sym (heard_past X table k x c cs r q))))
