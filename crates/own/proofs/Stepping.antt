@@ -6,7 +6,7 @@
 -- Assumes nothing.
 use mathlib.Core.Path.{◌≡◌, refl, sym, ap, ◌∙◌}
 use mathlib.Core.Bool.{Bool, true, false, cond}
-use mathlib.Core.List.{List}
+use mathlib.Core.List.{List, ◌∷◌}
 use Prim.Native.Nat.{ℕ, suc, min, ◌+◌, ◌-◌, ◌≤◌, ◌<◌}
 use native.Mathlib.Numerals.{add-one}
 use native.Mathlib.Omega.{arith}
@@ -43,14 +43,18 @@ module _ (arrived : List ℕ) (due x j : ℕ) (a : Alike arrived due x j) where
     unfolding arrivals all
     alike_goes p = let e = rw (left, ← m, eq-eqb _ _ p) at a.same in record { most = omega arith; same = ap (λ (m : ℕ). all x (arrivals arrived m (due - (j + 1)))) (add-one j) ∙ e }
 
+common_first : (x : ℕ) (ys : List ℕ) → cond (all x (x ∷ ys)) x 2 ≡ common (x ∷ ys)
+unfolding all common
+common_first x ys = let e = eq-eqb x x refl in rw e refl
+
 module _ (arrived : List ℕ) (due : ℕ) where
   pub common_none : due ≡ 0 → 2 ≡ common (arrivals arrived 0 due)
   unfolding arrivals common
   common_none z = rw z refl
 
   common_more : (k x : ℕ) → x ≡ message arrived 0 → cond (all x (arrivals arrived 0 (suc k))) x 2 ≡ common (arrivals arrived 0 (suc k))
-  unfolding arrivals all common
-  common_more k x m = let e = eq-eqb (message arrived 0) (message arrived 0) refl in rw (m, e) refl
+  unfolding arrivals
+  common_more k x m = ap (λ (y : ℕ). cond (all y (arrivals arrived 0 (suc k))) y 2) m ∙ common_first (message arrived 0) (arrivals arrived 1 k)
 
   module _ (o : due ≡ 0 → ⊥) (x : ℕ) (m : x ≡ message arrived 0) (b : Bool) (a : b ≡ all x (arrivals arrived 0 due)) where
     common_by : cond b x 2 ≡ common (arrivals arrived 0 due)

@@ -4,7 +4,7 @@ ghost use Rattle.part.specs.State.{first, placed, stands, opened};
 ghost use Rattle.own.specs.States.{state_of, own_of, moved_on};
 
 // Words of any size may be handed in; those of no state are refused.
-#[derive(Drop)]
+#[derive(Clone, Copy)]
 pub struct State {
     // The block, from 0; at the end the number of blocks.
     pub block: u64,
@@ -17,7 +17,7 @@ pub struct State {
 }
 
 // The values of a server.
-#[derive(Drop)]
+#[derive(Clone, Copy)]
 pub struct Own {
     // 0 or 1.
     pub v: u8,

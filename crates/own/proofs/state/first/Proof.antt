@@ -3,8 +3,6 @@ use mathlib.Core.Path.{refl}
 use Rattle.part.specs.State.{first}
 use Rattle.own.proofs.state.first.Statement.{statement}
 use Rattle.own.proofs.state.first.Tie as tie
-use Rattle.own.proofs.state.first.Reads as reads
-use Rattle.own.proofs.state.first.Lts as lts
 
 returns : tie.Need-returns
 unfolding first

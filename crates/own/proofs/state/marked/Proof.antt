@@ -2,8 +2,6 @@
 use mathlib.Core.Path.{refl}
 use Rattle.own.proofs.state.marked.Statement.{statement}
 use Rattle.own.proofs.state.marked.Tie as tie
-use Rattle.own.proofs.state.marked.Reads as reads
-use Rattle.own.proofs.state.marked.Lts as lts
 
 returns : tie.Need-returns
 returns c = refl

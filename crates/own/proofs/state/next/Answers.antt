@@ -1,0 +1,17 @@
+-- `own::state::next` meets its contract: each way out is one lemma of `Standing`. Assumes nothing.
+use native.Mathlib.Omega.{arith}
+use Rattle.own.proofs.Standing.{next_kind_lem, next_block_lem, next_end}
+use Rattle.own.proofs.state.next.Goals as goal
+use Rattle.own.proofs.state.next.Goals.{else-state-end, then-state-end+else-after-end}
+
+-- the next kind
+pub returns-then-state-lt20 : goal.returns-then-state-lt20
+returns-then-state-lt20 c = next_kind_lem _ _ _ c.if-state-lt20.true
+
+-- the next block
+pub returns-then-after-end : goal.returns-then-after-end
+returns-then-after-end c = next_block_lem _ _ _ c.if-state-lt20.false c.if-after-end.true
+
+-- the end, from the last block or from none of the plan
+pub returns : goal.returns
+returns c = next_end _ _ _ c.if-state-lt20.false (elim c.if-state-end.branch [ then-state-end+else-after-end w ↦ omega arith | else-state-end w ↦ omega arith ])
