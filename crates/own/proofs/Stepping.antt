@@ -16,7 +16,7 @@ use Rattle.steps.specs.Hearing.{message, all, common}
 use Rattle.carriage.specs.declared.opening.Opening.{Opening}
 use Rattle.part.specs.Own.{Own, own1, own_gather, own_compare, own5, own6}
 use Rattle.own.specs.Arrivals.{arrivals}
-use Rattle.own.specs.Commits.{committed_on}
+use Rattle.own.specs.Commits.{committed_on, commit_any}
 
 -- the arrivals before j are x
 pub record Alike (arrived : List ℕ) (due x j : ℕ) : Type 0 where
@@ -145,23 +145,30 @@ module _ (F i : ℕ) (l : List ℕ) (v : ℕ) (b : Bool) (a : b ≡ has F i) whe
 
 module _ (o : Opening) (kind i : ℕ) (l : List ℕ) (s : Own) where
   pub commits_inward : kind ≡ 0x11 → (begun : ℕ) → begun ≡ own1 o.side i s.v s.t → (receivers : ℕ) → receivers ≡ minus o.quorum o.side
-      → (t : ℕ) → t ≡ own_gather receivers i l begun → record { v = s.v; t = t } ≡ committed_on o kind i l s
-  unfolding committed_on
+      → (t : ℕ) → t ≡ own_gather receivers i l begun → record { v = s.v; t = t } ≡ commit_any o kind i l s
+  unfolding commit_any committed_on
   commits_inward k begun a receivers b t p = rw (k, p, a, b) refl
 
   module _ (k : kind ≡ 0x11 → ⊥) where
-    pub commits_among : kind ≡ 0x12 → (t : ℕ) → t ≡ own_compare o.quorum i l s.t → record { v = s.v; t = t } ≡ committed_on o kind i l s
-    unfolding committed_on
+    pub commits_among : kind ≡ 0x12 → (t : ℕ) → t ≡ own_compare o.quorum i l s.t → record { v = s.v; t = t } ≡ commit_any o kind i l s
+    unfolding commit_any committed_on
     commits_among q t p = rw (q, p) refl
 
     module _ (q : kind ≡ 0x12 → ⊥) where
       pub commits_outward : kind ≡ 0x13 → (all : ℕ) → all ≡ full (min o.n 8) → (sound : ℕ) → sound ≡ minus all o.fault
           → (receivers : ℕ) → receivers ≡ minus sound o.quorum → (t : ℕ) → t ≡ own_gather receivers i l s.t
           → (kept : ℕ) → kept ≡ meet o.side o.quorum → (v : ℕ) → v ≡ own5 sound kept i t s.v
-          → record { v = v; t = t } ≡ committed_on o kind i l s
-      unfolding committed_on
+          → record { v = v; t = t } ≡ commit_any o kind i l s
+      unfolding commit_any committed_on
       commits_outward r all a sound b receivers c t d kept e v g = rw (r, g, e, d, c, b, a) refl
 
-      pub commits_reports : (kind ≡ 0x13 → ⊥) → (v : ℕ) → v ≡ own6 o.fault i l s.v → record { v = v; t = s.t } ≡ committed_on o kind i l s
-      unfolding committed_on
+      pub commits_reports : (kind ≡ 0x13 → ⊥) → (v : ℕ) → v ≡ own6 o.fault i l s.v → record { v = v; t = s.t } ≡ commit_any o kind i l s
+      unfolding commit_any committed_on
       commits_reports r v p = sym (simp (ne_eqb _ _ k, ne_eqb _ _ q, ne_eqb _ _ r, p))
+
+-- of at most eight servers all count
+pub few_commit : (o : Opening) (kind i : ℕ) (l : List ℕ) (s w : Own) → w ≡ commit_any o kind i l s → o.n ≤ 8 → w ≡ committed_on o kind i l s
+unfolding commit_any
+few_commit o kind i l s w e h =
+    let m : min o.n 8 ≡ o.n = omega arith in
+    e ∙ ap (λ (n : ℕ). committed_on (record o { n = n }) kind i l s) m

@@ -1,6 +1,6 @@
 // Where a server stands between two calls, as words that a server can store.
-ghost use Rattle.std.specs.Prelude.{◌≡◌, ◌&&◌, ltb};
-ghost use Rattle.part.specs.State.{first, placed, stands, opened};
+ghost use Rattle.std.specs.Prelude.{◌≡◌, ◌&&◌, ◌<◌, ltb};
+ghost use Rattle.part.specs.State.{first, placed, stands, opened, next};
 ghost use Rattle.own.specs.States.{state_of, own_of, moved_on};
 
 // Words of any size may be handed in; those of no state are refused.
@@ -98,7 +98,8 @@ pub fn opened(state: State) -> State
 // The next kind, the next block, or the end, with these values and no ask open. After a block that
 // the plan does not have comes the end.
 pub fn next(blocks: usize, state: State, own: Own) -> State
-    ensures { state_of result ≡ moved_on blocks (state_of state) (own_of own) }
+    ensures any { state_of result ≡ moved_on blocks (state_of state) (own_of own) }
+    ensures inside { state.block < blocks → state_of result ≡ next blocks (state_of state) (own_of own) }
 {
     if state.kind < 0x14 {
         return State {

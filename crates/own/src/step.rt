@@ -1,11 +1,11 @@
 // The steps that a commit takes for one server, from what arrived for it: the first `due` bytes of
 // `arrived`, each read as in the run. Later bytes have no effect.
-ghost use Rattle.std.specs.Prelude.{◌≡◌};
+ghost use Rattle.std.specs.Prelude.{◌≡◌, ◌≤◌};
 ghost use Rattle.steps.specs.Hearing.{all, common};
 ghost use Rattle.part.specs.Own.{own1, own_gather, own_compare, own5, own6};
 ghost use Rattle.own.specs.Arrivals.{arrivals};
 ghost use Rattle.own.specs.States.{own_of};
-ghost use Rattle.own.specs.Commits.{committed_on};
+ghost use Rattle.own.specs.Commits.{committed_on, commit_any};
 
 use crate::state::Own;
 use carriage::arrival;
@@ -107,7 +107,8 @@ pub fn committed(
     due: usize,
     own: Own,
 ) -> Own
-    ensures { own_of result ≡ committed_on opening kind server (arrivals arrived.now 0 due) (own_of own) }
+    ensures any { own_of result ≡ commit_any opening kind server (arrivals arrived.now 0 due) (own_of own) }
+    ensures few { opening.n ≤ 8 → own_of result ≡ committed_on opening kind server (arrivals arrived.now 0 due) (own_of own) }
 {
     let side = opening.side;
     let quorum = opening.quorum;
