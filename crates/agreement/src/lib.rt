@@ -18,8 +18,7 @@ use server::turn;
 use writer::write;
 
 // The version of this library: 1,000,000 * major + 1,000 * minor + patch.
-#[unsafe(no_mangle)]
-pub extern "C" fn agreement_version() -> u64
+pub fn agreement_version() -> u64
     ensures { result ≡ version }
 {
     8_000
@@ -27,8 +26,7 @@ pub extern "C" fn agreement_version() -> u64
 
 // Reads a card. The answer is 0, n, f, 0 and eight rows, row u the set of servers that u has a link
 // to; or 2, what is at fault, the refusal's number, its place and eight zeros.
-#[unsafe(no_mangle)]
-pub extern "C" fn agreement_read_card(card: &[u8], answer: &mut [u64; 12])
+pub fn agreement_read_card(card: &[u8], answer: &mut [u64; 12])
     ensures { answer.new ≡ card_words (read_card card.now) }
 {
     let mut links = [[false; 8]; 8];
@@ -49,8 +47,7 @@ pub extern "C" fn agreement_read_card(card: &[u8], answer: &mut [u64; 12])
 // Prints the clean card. The answer is 0, the number of bytes, 0, 0, with the card in the first lent
 // bytes and the later ones as they were; or 2, what is at fault, the refusal's number, its place,
 // with every lent byte as it was.
-#[unsafe(no_mangle)]
-pub extern "C" fn agreement_print_card(card: &[u8], lent: &mut [u8], answer: &mut [u64; 4])
+pub fn agreement_print_card(card: &[u8], lent: &mut [u8], answer: &mut [u64; 4])
     ensures { PrintWords card.now lent.old lent.new answer.new }
 {
     let printed = printer::print_card(card, &mut *lent);
@@ -61,8 +58,7 @@ pub extern "C" fn agreement_print_card(card: &[u8], lent: &mut [u8], answer: &mu
 // Writes a plan for the card. The answer is 0, the number of bytes, 0, 0, 0, 0, 0, 0, with the plan in
 // the first lent bytes and the later ones as they were; or 2, what is at fault, the refusal's number,
 // its place, and for 17 the first bad split F, L, C, R, else 0, 0, 0, 0, with every lent byte as it was.
-#[unsafe(no_mangle)]
-pub extern "C" fn agreement_write_plan(card: &[u8], lent: &mut [u8], answer: &mut [u64; 8])
+pub fn agreement_write_plan(card: &[u8], lent: &mut [u8], answer: &mut [u64; 8])
     ensures { WriteWords card.now lent.old lent.new answer.new }
 {
     let written = write::write_plan(card, &mut *lent);
@@ -75,8 +71,7 @@ pub extern "C" fn agreement_write_plan(card: &[u8], lent: &mut [u8], answer: &mu
 // bytes and the later ones as they were; or 0, 0, the servers that every such route meets, how many
 // they are; or 2, what is at fault, the refusal's number, its place. But for routes that are found,
 // every lent byte is as it was.
-#[unsafe(no_mangle)]
-pub extern "C" fn agreement_separate_routes(
+pub fn agreement_separate_routes(
     card: &[u8],
     faults: u8,
     sources: u8,
@@ -93,8 +88,7 @@ pub extern "C" fn agreement_separate_routes(
 
 // The split test. The answer is 0, 0, 0, 0, 0 where no split is bad; 1, F, L, C, R, the first bad
 // split; or 2, what is at fault, the refusal's number, its place, 0.
-#[unsafe(no_mangle)]
-pub extern "C" fn agreement_split_test(card: &[u8], answer: &mut [u64; 5])
+pub fn agreement_split_test(card: &[u8], answer: &mut [u64; 5])
     ensures { answer.new ≡ split_words (split_test card.now) }
 {
     let tested = split::split_test(card);
@@ -104,8 +98,7 @@ pub extern "C" fn agreement_split_test(card: &[u8], answer: &mut [u64; 5])
 
 // The quick test for two-way sites. The answer is 0, 1 if the older rule holds and 0 if not, n, the
 // least number of servers to be taken away; or 2, what is at fault, the refusal's number, its place.
-#[unsafe(no_mangle)]
-pub extern "C" fn agreement_quick_test(card: &[u8], answer: &mut [u64; 4])
+pub fn agreement_quick_test(card: &[u8], answer: &mut [u64; 4])
     ensures { QuickWords card.now answer.new }
 {
     let tested = two_way::quick_test(card);
@@ -115,8 +108,7 @@ pub extern "C" fn agreement_quick_test(card: &[u8], answer: &mut [u64; 4])
 
 // The plan check. The answer is 0, the number of blocks, the number of carriages, 0, and then no
 // split of the card's network is bad; or 2, what is at fault, the refusal's number, its place.
-#[unsafe(no_mangle)]
-pub extern "C" fn agreement_check_plan(card: &[u8], plan: &[u8], answer: &mut [u64; 4])
+pub fn agreement_check_plan(card: &[u8], plan: &[u8], answer: &mut [u64; 4])
     ensures { PlanWords card.now plan.now answer.new }
 {
     let checked = check::check_plan(card, plan);
@@ -126,8 +118,7 @@ pub extern "C" fn agreement_check_plan(card: &[u8], plan: &[u8], answer: &mut [u
 
 // The load on each relay. The answer is 0 and for each of the eight servers how many routes of the
 // plan it relays; or 2, what is at fault, the refusal's number, its place and five zeros.
-#[unsafe(no_mangle)]
-pub extern "C" fn agreement_load(card: &[u8], plan: &[u8], answer: &mut [u64; 9])
+pub fn agreement_load(card: &[u8], plan: &[u8], answer: &mut [u64; 9])
     ensures { LoadWords card.now plan.now answer.new }
 {
     let mut counts = [0usize; 8];
@@ -139,8 +130,7 @@ pub extern "C" fn agreement_load(card: &[u8], plan: &[u8], answer: &mut [u64; 9]
 // The run. The answer is 0, the number of blocks, the number of carriages, 0, with the decided bits
 // in the first n lent bytes, 2 for a faulty server; or 2, what is at fault, the refusal's number,
 // its place, with every lent byte as it was.
-#[unsafe(no_mangle)]
-pub extern "C" fn agreement_run(
+pub fn agreement_run(
     card: &[u8],
     plan: &[u8],
     inputs: &[u8],
@@ -158,14 +148,7 @@ pub extern "C" fn agreement_run(
 
 // Where a server starts, with its own input. The answer is 0 and the five words of its state; or 2,
 // what is at fault, the refusal's number, its place, 0, 0.
-#[unsafe(no_mangle)]
-pub extern "C" fn agreement_start(
-    card: &[u8],
-    plan: &[u8],
-    server: u8,
-    input: u8,
-    answer: &mut [u64; 6],
-)
+pub fn agreement_start(card: &[u8], plan: &[u8], server: u8, input: u8, answer: &mut [u64; 6])
     ensures { answer.new ≡ stepped_words (start_call card.now plan.now server input) }
 {
     let stepped = turn::start(card, plan, server, input);
@@ -178,8 +161,7 @@ pub extern "C" fn agreement_start(
 // 0, the five words of the state with its ask open, the number of values, and later lent bytes are
 // as they were; or 2, what is at fault, the refusal's number, its place, 0, 0, 0, with every lent byte
 // as it was.
-#[unsafe(no_mangle)]
-pub extern "C" fn agreement_ask(
+pub fn agreement_ask(
     card: &[u8],
     plan: &[u8],
     server: u8,
@@ -198,8 +180,7 @@ pub extern "C" fn agreement_ask(
 // What arrived for a server as receiver is taken in. The answer is 0 and the five words of its state
 // at the next kind, the next block or the end; or 2, what is at fault, the refusal's number, its
 // place, 0, 0.
-#[unsafe(no_mangle)]
-pub extern "C" fn agreement_commit(
+pub fn agreement_commit(
     card: &[u8],
     plan: &[u8],
     server: u8,

@@ -22,9 +22,10 @@
 // A state is its five words, three bytes each, high byte first.
 #![tactic(auto)]
 
-ghost use Rattle.std.specs.Prelude.{◌≤◌, length};
+ghost use Rattle.std.specs.Prelude.{◌≤◌, length, IfOk};
 
-use libc::{STDIN_FILENO, STDOUT_FILENO};
+use std::io;
+use std::io::Read;
 
 // A byte as a number below 256, which the sums of part_length ask.
 fn wide(x: u8) -> usize
@@ -76,70 +77,69 @@ fn after(s: &[u8]) -> &[u8]
     &s[3 + n..]
 }
 
-fn print_word(x: u64) {
-    io::print_decimal(STDOUT_FILENO, x);
-    io::write_all(STDOUT_FILENO, b" ");
+fn print_word(rt: &impl Print, x: u64) -> io::Result<()> {
+    print!(rt; "{x} ")
 }
 
-fn print_byte(x: u8) {
-    print_word(x as u64);
+fn print_byte(rt: &impl Print, x: u8) -> io::Result<()> {
+    print_word(rt, x as u64)
 }
 
-fn print_words(words: [u64; 4]) {
-    for i in 0..4usize {
-        print_word(words[i]);
+fn print_words(rt: &impl Print, words: [u64; 4]) -> io::Result<()> {
+    for word in &words {
+        print_word(rt, *word)?;
     }
+    Ok(())
 }
 
-fn print_six(words: [u64; 6]) {
-    print_word(words[0]);
-    print_word(words[1]);
-    print_word(words[2]);
-    print_word(words[3]);
-    print_word(words[4]);
-    print_word(words[5]);
-}
-
-fn print_bytes(bytes: &[u8]) {
-    for i in 0..bytes.len() {
-        print_byte(bytes[i]);
+fn print_six(rt: &impl Print, words: [u64; 6]) -> io::Result<()> {
+    for word in &words {
+        print_word(rt, *word)?;
     }
+    Ok(())
 }
 
-fn end_line() {
-    io::write_all(STDOUT_FILENO, b"\n");
+fn print_bytes(rt: &impl Print, bytes: &[u8]) -> io::Result<()> {
+    for byte in bytes {
+        print_byte(rt, *byte)?;
+    }
+    Ok(())
 }
 
-fn card_case(card: &[u8]) {
+fn end_line(rt: &impl Print) -> io::Result<()> {
+    println!(rt)
+}
+
+fn card_case(rt: &impl Print, card: &[u8]) -> io::Result<()> {
     let mut answer = [9u64; 12];
     agreement::agreement_read_card(card, &mut answer);
-    for i in 0..12usize {
-        print_word(answer[i]);
+    for word in &answer {
+        print_word(rt, *word)?;
     }
-    end_line();
+    end_line(rt)
 }
 
-fn split_case(card: &[u8]) {
+fn split_case(rt: &impl Print, card: &[u8]) -> io::Result<()> {
     let mut answer = [9u64; 5];
     agreement::agreement_split_test(card, &mut answer);
-    for i in 0..5usize {
-        print_word(answer[i]);
+    for word in &answer {
+        print_word(rt, *word)?;
     }
-    end_line();
+    end_line(rt)
 }
 
-fn quick_case(card: &[u8]) {
+fn quick_case(rt: &impl Print, card: &[u8]) -> io::Result<()> {
     let mut answer = [9u64; 4];
     agreement::agreement_quick_test(card, &mut answer);
-    print_words(answer);
-    end_line();
+    print_words(rt, answer)?;
+    end_line(rt)
 }
 
-fn plan_case(card: &[u8], plan: &[u8]) {
+fn plan_case(rt: &impl Print, card: &[u8], plan: &[u8]) -> io::Result<()> {
     let mut answer = [9u64; 4];
     agreement::agreement_check_plan(card, plan, &mut answer);
-    print_words(answer);
-    end_line();
+    print_words(rt, answer)?;
+    end_line(rt)
 }
 
 // The bytes of the plan that was written.
@@ -151,49 +151,48 @@ fn front(lent: &[u8], bytes: u64) -> &[u8] {
     &lent[0..n]
 }
 
-fn write_into(card: &[u8], lent: &mut [u8]) {
+fn write_into(rt: &impl Print, card: &[u8], lent: &mut [u8]) -> io::Result<()> {
     let mut answer = [9u64; 8];
     agreement::agreement_write_plan(card, &mut *lent, &mut answer);
-    print_words([answer[0], answer[1], answer[2], answer[3]]);
-    print_words([answer[4], answer[5], answer[6], answer[7]]);
+    print_words(rt, [answer[0], answer[1], answer[2], answer[3]])?;
+    print_words(rt, [answer[4], answer[5], answer[6], answer[7]])?;
     if answer[0] == 0 {
-        plan_case(card, front(&lent[..], answer[1]));
-        return;
+        return plan_case(rt, card, front(&lent[..], answer[1]));
     }
-    end_line();
+    end_line(rt)
 }
 
 // Apart from write_case, so that no proof writes out all the bytes.
-fn write_within(card: &[u8], lent: &mut [u8; 300000]) {
-    write_into(card, &mut *lent);
+fn write_within(rt: &impl Print, card: &[u8], lent: &mut [u8; 300000]) -> io::Result<()> {
+    write_into(rt, card, &mut *lent)
 }
 
-fn write_case(card: &[u8]) {
+fn write_case(rt: &impl Print, card: &[u8]) -> io::Result<()> {
     let mut lent = [165u8; 300000];
-    write_within(card, &mut lent);
+    write_within(rt, card, &mut lent)
 }
 
-fn load_case(card: &[u8], plan: &[u8]) {
+fn load_case(rt: &impl Print, card: &[u8], plan: &[u8]) -> io::Result<()> {
     let mut answer = [9u64; 9];
     agreement::agreement_load(card, plan, &mut answer);
-    for i in 0..9usize {
-        print_word(answer[i]);
+    for word in &answer {
+        print_word(rt, *word)?;
     }
-    end_line();
+    end_line(rt)
 }
 
 // The site is V−F, the eight rows of links, the sources and the receiver, a byte each.
-fn route_case(site: &[u8], operand: &[u8]) {
+fn route_case(rt: &impl Print, site: &[u8], operand: &[u8]) -> io::Result<()> {
     if 11 <= site.len() {
         let rows = [
             site[1], site[2], site[3], site[4], site[5], site[6], site[7], site[8],
         ];
         let set = route::check_route(site[0], &rows, site[9], site[10], operand);
         let servers = route::route_part(site[0], &rows, site[9], site[10], operand);
-        print_byte(set);
-        print_bytes(servers);
+        print_byte(rt, set)?;
+        print_bytes(rt, servers)?;
     }
-    end_line();
+    end_line(rt)
 }
 
 // The faulty set; 0 where the part is empty.
@@ -214,42 +213,64 @@ fn lent_size(s: &[u8]) -> usize
     s.len()
 }
 
-fn print_into(card: &[u8], lent: &mut [u8]) {
+fn print_into(rt: &impl Print, card: &[u8], lent: &mut [u8]) -> io::Result<()> {
     let mut answer = [9u64; 4];
     agreement::agreement_print_card(card, &mut *lent, &mut answer);
-    print_words(answer);
-    print_bytes(&lent[..]);
-    end_line();
+    print_words(rt, answer)?;
+    print_bytes(rt, &lent[..])?;
+    end_line(rt)
 }
 
-fn print_case(card: &[u8], buffer: &[u8]) {
+fn print_case(rt: &impl Print, card: &[u8], buffer: &[u8]) -> io::Result<()> {
     let mut lent = [165u8; 256];
     let size = lent_size(buffer);
-    print_into(card, &mut lent[..size]);
+    print_into(rt, card, &mut lent[..size])
 }
 
-fn run_into(card: &[u8], plan: &[u8], inputs: &[u8], faulty: u8, table: &[u8], lent: &mut [u8]) {
+fn run_into(
+    rt: &impl Print,
+    card: &[u8],
+    plan: &[u8],
+    inputs: &[u8],
+    faulty: u8,
+    table: &[u8],
+    lent: &mut [u8],
+) -> io::Result<()> {
     let mut answer = [9u64; 4];
     agreement::agreement_run(card, plan, inputs, faulty, table, &mut *lent, &mut answer);
-    print_words(answer);
-    print_bytes(&lent[..]);
-    end_line();
+    print_words(rt, answer)?;
+    print_bytes(rt, &lent[..])?;
+    end_line(rt)
 }
 
-fn run_case(card: &[u8], plan: &[u8], inputs: &[u8], faulty: &[u8], table: &[u8], buffer: &[u8]) {
+fn run_case(
+    rt: &impl Print,
+    card: &[u8],
+    plan: &[u8],
+    inputs: &[u8],
+    faulty: &[u8],
+    table: &[u8],
+    buffer: &[u8],
+) -> io::Result<()> {
     let mut lent = [165u8; 256];
     let set = first_byte(faulty);
     let size = lent_size(buffer);
-    run_into(card, plan, inputs, set, table, &mut lent[..size]);
+    run_into(rt, card, plan, inputs, set, table, &mut lent[..size])
 }
 
-fn transcript_case(card: &[u8], plan: &[u8], run_in: &[u8]) {
+fn transcript_case(rt: &impl Print, card: &[u8], plan: &[u8], run_in: &[u8]) -> io::Result<()> {
     let mut text = [0u8; 1000];
     let length = transcript::rehearse(card, plan, run_in, &mut text);
-    io::write_all(STDOUT_FILENO, &text[..length]);
+    rt.write_all(&text[..length])
 }
 
-fn start_case(card: &[u8], plan: &[u8], server: &[u8], input: &[u8]) {
+fn start_case(
+    rt: &impl Print,
+    card: &[u8],
+    plan: &[u8],
+    server: &[u8],
+    input: &[u8],
+) -> io::Result<()> {
     let mut answer = [9u64; 6];
     agreement::agreement_start(
         card,
@@ -258,8 +279,8 @@ fn start_case(card: &[u8], plan: &[u8], server: &[u8], input: &[u8]) {
         first_byte(input),
         &mut answer,
     );
-    print_six(answer);
-    end_line();
+    print_six(rt, answer)?;
+    end_line(rt)
 }
 
 fn state_word(state: &[u8]) -> u64 {
@@ -279,124 +300,166 @@ fn state_of(state: &[u8]) -> [u64; 5] {
     ]
 }
 
-fn ask_into(card: &[u8], plan: &[u8], server: u8, state: [u64; 5], lent: &mut [u8]) {
+fn ask_into(
+    rt: &impl Print,
+    card: &[u8],
+    plan: &[u8],
+    server: u8,
+    state: [u64; 5],
+    lent: &mut [u8],
+) -> io::Result<()> {
     let mut answer = [9u64; 7];
     agreement::agreement_ask(card, plan, server, &state, &mut *lent, &mut answer);
-    print_six([
-        answer[0], answer[1], answer[2], answer[3], answer[4], answer[5],
-    ]);
-    print_word(answer[6]);
-    print_bytes(&lent[..]);
-    end_line();
+    print_six(
+        rt,
+        [
+            answer[0], answer[1], answer[2], answer[3], answer[4], answer[5],
+        ],
+    )?;
+    print_word(rt, answer[6])?;
+    print_bytes(rt, &lent[..])?;
+    end_line(rt)
 }
 
-fn ask_case(card: &[u8], plan: &[u8], server: &[u8], state: &[u8], buffer: &[u8]) {
+fn ask_case(
+    rt: &impl Print,
+    card: &[u8],
+    plan: &[u8],
+    server: &[u8],
+    state: &[u8],
+    buffer: &[u8],
+) -> io::Result<()> {
     let mut lent = [165u8; 256];
     let size = lent_size(buffer);
     ask_into(
+        rt,
         card,
         plan,
         first_byte(server),
         state_of(state),
         &mut lent[..size],
-    );
+    )
 }
 
-fn commit_case(card: &[u8], plan: &[u8], server: &[u8], state: &[u8], arrived: &[u8]) {
+fn commit_case(
+    rt: &impl Print,
+    card: &[u8],
+    plan: &[u8],
+    server: &[u8],
+    state: &[u8],
+    arrived: &[u8],
+) -> io::Result<()> {
     let mut answer = [9u64; 6];
     let words = state_of(state);
     agreement::agreement_commit(card, plan, first_byte(server), &words, arrived, &mut answer);
-    print_six(answer);
-    end_line();
+    print_six(rt, answer)?;
+    end_line(rt)
 }
 
 // The case of this kind that starts here; answers what follows it.
-fn answer_case(kind: u8, s: &[u8]) -> &[u8]
-    ensures { length result.now ≤ length s.now }
+fn answer_case<'a>(rt: &impl Print, kind: u8, s: &'a [u8]) -> io::Result<&'a [u8]>
+    ensures { IfOk result (λ rest. length rest.now ≤ length s.now) }
 {
     let card = part(s);
     let first = after(s);
     if kind == 99 {
-        card_case(card);
-        return first;
+        card_case(rt, card)?;
+        return Ok(first);
     }
     if kind == 115 {
-        split_case(card);
-        return first;
+        split_case(rt, card)?;
+        return Ok(first);
     }
     if kind == 113 {
-        quick_case(card);
-        return first;
+        quick_case(rt, card)?;
+        return Ok(first);
     }
     if kind == 102 {
-        write_case(card);
-        return first;
+        write_case(rt, card)?;
+        return Ok(first);
     }
     let plan = part(first);
     let second = after(first);
     if kind == 98 {
         // its second part is the buffer
-        print_case(card, plan);
-        return second;
+        print_case(rt, card, plan)?;
+        return Ok(second);
     }
     if kind == 112 {
-        plan_case(card, plan);
-        return second;
+        plan_case(rt, card, plan)?;
+        return Ok(second);
     }
     if kind == 108 {
-        load_case(card, plan);
-        return second;
+        load_case(rt, card, plan)?;
+        return Ok(second);
     }
     if kind == 119 {
         // its parts are a site and an operand
-        route_case(card, plan);
-        return second;
+        route_case(rt, card, plan)?;
+        return Ok(second);
     }
     let inputs = part(second);
     let third = after(second);
     if kind == 116 {
-        transcript_case(card, plan, inputs);
-        return third;
+        transcript_case(rt, card, plan, inputs)?;
+        return Ok(third);
     }
     let faulty = part(third);
     let fourth = after(third);
     if kind == 111 {
         // its third part is the server, its fourth the input
-        start_case(card, plan, inputs, faulty);
-        return fourth;
+        start_case(rt, card, plan, inputs, faulty)?;
+        return Ok(fourth);
     }
     let table = part(fourth);
     let fifth = after(fourth);
     if kind == 97 {
         // the server, its state and the buffer
-        ask_case(card, plan, inputs, faulty, table);
-        return fifth;
+        ask_case(rt, card, plan, inputs, faulty, table)?;
+        return Ok(fifth);
     }
     if kind == 109 {
         // the server, its state and what arrived
-        commit_case(card, plan, inputs, faulty, table);
-        return fifth;
+        commit_case(rt, card, plan, inputs, faulty, table)?;
+        return Ok(fifth);
     }
-    run_case(card, plan, inputs, faulty, table, part(fifth));
-    after(fifth)
+    run_case(rt, card, plan, inputs, faulty, table, part(fifth))?;
+    Ok(after(fifth))
+}
+
+// Reads until the buffer is full or the input ends; answers how many bytes there are.
+fn read_full(input: &mut impl Read, buf: &mut [u8]) -> io::Result<usize>
+    ensures { IfOk result (λ n. n ≤ length buf.new) }
+{
+    let mut done = 0;
+    // each round but the last brings a byte
+    for _ in 0..buf.len() {
+        let n = input.read(&mut buf[done..])?;
+        if n == 0 {
+            break;
+        }
+        done += n;
+    }
+    Ok(done)
 }
 
 // Reads the cases into the lent bytes and answers them.
-fn answer_all(buf: &mut [u8]) {
-    let n = io::read_full(STDIN_FILENO, &mut *buf);
+fn answer_all(rt: &(impl Input + Print), buf: &mut [u8]) -> io::Result<()> {
+    let n = read_full(&mut rt.reader(), &mut *buf)?;
     let mut rest = &buf[..n];
     while 0 < rest.len() {
-        let next = answer_case(rest[0], &rest[1..]);
+        let next = answer_case(rt, rest[0], &rest[1..])?;
         rest = next;
     }
+    Ok(())
 }
 
 // Apart from main, so that no proof writes out all the zeros.
-fn answer_within(buf: &mut [u8; 4194304]) {
-    answer_all(&mut *buf);
+fn answer_within(rt: &(impl Input + Print), buf: &mut [u8; 4194304]) -> io::Result<()> {
+    answer_all(rt, &mut *buf)
 }
 
-fn main() {
+fn main(rt: HostRuntime) -> io::Result<()> {
     let mut buf = [0u8; 4194304];
-    answer_within(&mut buf);
+    answer_within(&rt, &mut buf)
 }

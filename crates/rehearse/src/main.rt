@@ -2,37 +2,65 @@
 // transcript of the run. A file that is not there counts as empty.
 #![tactic(auto)]
 
-ghost use Rattle.io.specs.Counts.{IsPrefixLen};
+ghost use Rattle.std.specs.Prelude.{◌≤◌, length, OnOk};
+ghost use Rattle.std.specs.Io.KnownBytes.{Appends};
+ghost use Rattle.transcript.specs.Text.{transcript};
 
-use libc::STDOUT_FILENO;
+use std::io::{Read, Write};
+use std::rt::Files;
+use std::{fs, io};
+
+// Reads until the buffer is full, the file ends or a read fails; answers how many bytes there are.
+fn read_full(file: &mut impl Read, buf: &mut [u8]) -> usize
+    ensures { result ≤ length buf.new }
+{
+    let mut done = 0;
+    // each round but the last brings a byte
+    for _ in 0..buf.len() {
+        match file.read(&mut buf[done..]) {
+            Ok(n) if n > 0 => done += n,
+            _ => break,
+        }
+    }
+    done
+}
 
 // The file's bytes at the start of the buffer; answers how many there are. One byte more than a
 // file may have is read, so that a file that is too long is seen to be.
-fn read_file(path: &[u8], buf: &mut [u8; 65537]) -> usize
-    ensures { IsPrefixLen result buf.new }
+fn read_file(rt: &impl Files, path: &str, buf: &mut [u8; 65537]) -> usize
+    ensures { result ≤ length buf.new }
 {
-    let fd = os::open_read(path);
-    if fd < 0 {
-        return 0;
+    match fs::open(rt, path) {
+        Ok(mut file) => read_full(&mut file, &mut *buf),
+        Err(_) => 0,
     }
-    let n = io::read_full(fd, &mut *buf);
-    libc::close(fd);
-    n
 }
 
-fn main() {
-    let mut card = [0u8; 65537];
-    let card_length = read_file(b"network.card", &mut card);
-    let mut plan = [0u8; 65537];
-    let plan_length = read_file(b"network.plan", &mut plan);
-    let mut run_in = [0u8; 65537];
-    let run_length = read_file(b"run.in", &mut run_in);
+// Prints the transcript of the run, all of it and no more: it has at most 1,000 bytes.
+fn print_transcript<W: Write>(
+    out: &mut W,
+    card: &[u8],
+    plan: &[u8],
+    run_in: &[u8],
+) -> io::Result<()>
+    ensures { OnOk result (Appends (W.contents out.old) (W.contents out.new) (transcript card.now plan.now run_in.now)) }
+{
     let mut text = [0u8; 1000];
-    let length = transcript::rehearse(
+    let length = transcript::rehearse(card, plan, run_in, &mut text);
+    out.write_all(&text[..length])
+}
+
+fn main(rt: HostRuntime) -> io::Result<()> {
+    let mut card = [0u8; 65537];
+    let card_length = read_file(&rt, "network.card", &mut card);
+    let mut plan = [0u8; 65537];
+    let plan_length = read_file(&rt, "network.plan", &mut plan);
+    let mut run_in = [0u8; 65537];
+    let run_length = read_file(&rt, "run.in", &mut run_in);
+    print_transcript(
+        &mut io::writer(&rt),
         &card[..card_length],
         &plan[..plan_length],
         &run_in[..run_length],
-        &mut text,
-    );
-    io::write_all(STDOUT_FILENO, &text[..length]);
+    )
 }
