@@ -123,7 +123,7 @@ pub fn agreement_load(card: &[u8], plan: &[u8], answer: &mut [u64; 9])
 {
     let mut counts = [0usize; 8];
     let loaded = load::load(card, plan, &mut counts);
-    let words = words::load_words(loaded, counts);
+    let words = words::loaded_words(loaded, counts);
     *answer = words;
 }
 

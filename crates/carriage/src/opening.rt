@@ -4,7 +4,7 @@ ghost use Rattle.carriage.specs.Openings.{OpensBy};
 
 // n and f of the network, F, A and S of the block, and how many commands 11, 12, 13 and 14, bytes
 // and carriages it has.
-#[derive(Drop)]
+#[derive(Clone, Copy)]
 pub struct Opening {
     pub n: u8,
     pub f: u8,

@@ -44,7 +44,7 @@ pub fn refused_words(r: Refusal) -> [u64; 4]
 }
 
 // Four words, then for each of the eight servers the set of servers that it has a link to.
-fn row_words(head: [u64; 4], links: [[bool; 8]; 8]) -> [u64; 12]
+fn card_words(head: [u64; 4], links: [[bool; 8]; 8]) -> [u64; 12]
     ensures { result ≡ head ++ rows_of (linked_in links) }
 {
     let rows = links::rows(links);
@@ -68,7 +68,7 @@ fn row_words(head: [u64; 4], links: [[bool; 8]; 8]) -> [u64; 12]
 pub fn network_words(n: u8, f: u8, links: [[bool; 8]; 8]) -> [u64; 12]
     ensures { result ≡ card_words (network n f links) }
 {
-    row_words([0, n as u64, f as u64, 0], links)
+    card_words([0, n as u64, f as u64, 0], links)
 }
 
 // A refused card: the refusal and eight zeros.
@@ -76,7 +76,7 @@ pub fn unread_words(r: Refusal) -> [u64; 12]
     ensures { result ≡ card_words (refused (refusal_of r)) }
 {
     let head = refused_words(r);
-    row_words(head, [[false; 8]; 8])
+    card_words(head, [[false; 8]; 8])
 }
 
 // The printer's answer: 0, the number of bytes, 0, 0; or the refusal.
@@ -171,22 +171,29 @@ pub fn ran_words(ran: Ran) -> [u64; 4]
     }
 }
 
+// 0 and the eight counts.
+fn load_words(counts: [usize; 8]) -> [u64; 9]
+    ensures { result ≡ 0 ∷ counts }
+{
+    [
+        0,
+        counts[0] as u64,
+        counts[1] as u64,
+        counts[2] as u64,
+        counts[3] as u64,
+        counts[4] as u64,
+        counts[5] as u64,
+        counts[6] as u64,
+        counts[7] as u64,
+    ]
+}
+
 // The load's answer with the counts after it: 0 and the eight counts; or the refusal and five zeros.
-pub fn load_words(loaded: Loaded, counts: [usize; 8]) -> [u64; 9]
+pub fn loaded_words(loaded: Loaded, counts: [usize; 8]) -> [u64; 9]
     ensures { result ≡ load_words (loadedOf loaded counts) }
 {
     match loaded {
-        Loaded::Counted => [
-            0,
-            counts[0] as u64,
-            counts[1] as u64,
-            counts[2] as u64,
-            counts[3] as u64,
-            counts[4] as u64,
-            counts[5] as u64,
-            counts[6] as u64,
-            counts[7] as u64,
-        ],
+        Loaded::Counted => load_words(counts),
         Loaded::Refused(r) => {
             let head = refused_words(r);
             [head[0], head[1], head[2], head[3], 0, 0, 0, 0, 0]

@@ -8,17 +8,17 @@ use Rattle.words.proofs.unread_words.Tie as tie
 use Rattle.words.proofs.unread_words.Reads as reads
 use Rattle.words.proofs.unread_words.Lts as lts
 use Rattle.words.proofs.refused_words.Reads as refused-words-reads
-use Rattle.words.proofs.row_words.Reads as row-words-reads
+use Rattle.words.proofs.card_words.Reads as card-words-reads
 
 refused-words-requires : tie.Need-refused-words-requires
 refused-words-requires c κs = search rules
 
-row-words-requires : tie.Need-row-words-requires
-row-words-requires c κs = search rules
+card-words-requires : tie.Need-card-words-requires
+card-words-requires c κs = search rules
 
 returns : tie.Need-returns
 unfolding no_links
-returns c = c.row_words.ensures ∙ card_refused _ _ c.before.refused-words.ensures
+returns c = c.card_words.ensures ∙ card_refused _ _ c.before.refused-words.ensures
 
 pub unread_words_spec : {M : Type 1} → statement M
-unread_words_spec = tie.close (tie.spec refused-words-requires row-words-requires returns)
+unread_words_spec = tie.close (tie.spec refused-words-requires card-words-requires returns)

@@ -1,10 +1,10 @@
--- `words::row_words` meets its contract. The answer has every entry of the four words and of the rows in its place. Assumes nothing.
+-- `words::card_words` meets its contract. The answer has every entry of the four words and of the rows in its place. Assumes nothing.
 use borrow.Author.Rules.{rules}
 use Rattle.words.proofs.Rows.{rows_laid}
-use Rattle.words.proofs.row_words.Statement.{statement}
-use Rattle.words.proofs.row_words.Tie as tie
-use Rattle.words.proofs.row_words.Reads as reads
-use Rattle.words.proofs.row_words.Lts as lts
+use Rattle.words.proofs.card_words.Statement.{statement}
+use Rattle.words.proofs.card_words.Tie as tie
+use Rattle.words.proofs.card_words.Reads as reads
+use Rattle.words.proofs.card_words.Lts as lts
 use Rattle.network.proofs.links.rows.Reads as rows-reads
 
 rows-requires : tie.Need-rows-requires
@@ -73,8 +73,8 @@ cast-t49 c = search rules
 returns : tie.Need-returns
 returns c = rows_laid c.before.args.t1 c.rows.result (search rules) (search rules) _ c.rows.ensures
 
-pub row_words_spec : {M : Type 1} → statement M
-row_words_spec =
+pub card_words_spec : {M : Type 1} → statement M
+card_words_spec =
     tie.close
     (tie.spec
     rows-requires

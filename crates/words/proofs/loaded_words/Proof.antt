@@ -1,14 +1,14 @@
--- `words::load_words` meets its contract. Counted, the answer has 0 and then every count in its place; a refusal has its four words in front. Assumes nothing.
+-- `words::loaded_words` meets its contract. Counted, the answer has 0 and then every count in its place; a refusal has its four words in front. Assumes nothing.
 use mathlib.Core.Path.{sym, ap, ◌∙◌}
 use borrow.Author.Rules.{rules}
 use Rattle.load.specs.declared.Loaded.{Loaded}
 use Rattle.load.specs.Answers.{loadedOf}
 use Rattle.words.specs.Words.{load_words}
 use Rattle.words.proofs.Rows.{counts_laid, front_laid}
-use Rattle.words.proofs.load_words.Statement.{statement}
-use Rattle.words.proofs.load_words.Tie as tie
-use Rattle.words.proofs.load_words.Reads as reads
-use Rattle.words.proofs.load_words.Lts as lts
+use Rattle.words.proofs.loaded_words.Statement.{statement}
+use Rattle.words.proofs.loaded_words.Tie as tie
+use Rattle.words.proofs.loaded_words.Reads as reads
+use Rattle.words.proofs.loaded_words.Lts as lts
 use Rattle.words.proofs.refused_words.Reads as refused-words-reads
 
 enum_told : tie.Need-enum-told
@@ -62,8 +62,8 @@ returns c = let counts = c.before.before.args.t2 in counts_laid counts (search r
 returns-2 : tie.Need-returns-2
 returns-2 c = front_laid _ _ c.refused-words.ensures _ ∙ ap (λ (l : Loaded). load_words (loadedOf l c.before.before.before.before.args.t2)) (sym c.before.before.loaded.given.1)
 
-pub load_words_spec : {M : Type 1} → statement M
-load_words_spec =
+pub loaded_words_spec : {M : Type 1} → statement M
+loaded_words_spec =
     tie.close
     (tie.spec
     enum_told
