@@ -1,0 +1,7 @@
+-- `blocks::reports::put_report` meets its contract: three bytes, one after the other. Assumes nothing.
+use Rattle.blocks.proofs.Texts.{report_put}
+use borrow.Author.Rules.{rules}
+use Rattle.blocks.proofs.reports.put_report.Goals as goal
+
+pub returns : goal.returns
+returns c = search report_put

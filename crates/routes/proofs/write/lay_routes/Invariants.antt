@@ -1,0 +1,13 @@
+-- `routes::write::lay_routes` meets its contract. The invariant of its loop, `Routes`: to lay the routes left over what is there gives the whole. The measure
+-- is how many servers are left. Assumes nothing.
+use Prim.Native.Nat.{◌+◌, ◌-◌, ◌≤◌}
+use lib.ListN.{length}
+use borrow.Author.Rules.{rules}
+use Rattle.routes.proofs.Laying.{Routes, routes_start, routes_room, routes_go, routes_skip, routes_end}
+use Rattle.routes.proofs.write.lay_routes.Given as goal
+
+abbrev pub invariant-loop-x : goal.invariant-loop-x
+invariant-loop-x l = Routes l.flow l.receiver l.initial.lent l.lent l.at l.x
+
+abbrev pub decreases-loop-x : goal.decreases-loop-x
+decreases-loop-x l = 8 - l.x
