@@ -23,7 +23,7 @@ use Rattle.split.specs.Split.{good, split_test}
 use Rattle.network.specs.declared.card.Reading.{Reading}
 use Rattle.printer.specs.declared.Printed.{Printed}
 use Rattle.network.specs.Answers.{reading_of, Answered}
-use Rattle.printer.specs.Answers.{printedOf, Printing}
+use Rattle.printer.specs.Answers.{printed_of, Printing}
 use Rattle.network.proofs.Heads.{network_is, refused_of}
 use Rattle.two_way.specs.Quick.{Quick, ruled, quick_test}
 use Rattle.two_way.specs.Quick as Quick
@@ -33,17 +33,17 @@ use Rattle.plan.specs.Check as Check
 use Rattle.rules.specs.Theorems.{Accepted}
 use Rattle.rules.proofs.Main.{shows_good_lem, shows_wide_lem}
 use Rattle.routes.specs.declared.Routed.{Routed}
-use Rattle.routes.specs.Answers.{routingOf}
+use Rattle.routes.specs.Answers.{routing_of}
 use Rattle.routes.specs.Answers as Routes
 use Rattle.writer.specs.declared.write.Written.{Written}
 use Rattle.writer.specs.Answers.{written_of, Wrote}
 use Rattle.load.specs.Load.{added}
-use Rattle.load.specs.Answers.{loadedOf}
+use Rattle.load.specs.Answers.{loaded_of}
 use Rattle.load.specs.Answers as Load
 use Rattle.load.specs.Places.{places_in}
 use Rattle.load.specs.declared.Loaded.{Loaded}
 use Rattle.run.specs.declared.call.Ran.{Ran}
-use Rattle.run.specs.Answers.{ranOf}
+use Rattle.run.specs.Answers.{ran_of}
 use Rattle.run.specs.Answers as Run
 use Rattle.words.specs.Words.{card_words, print_words, quick_words, plan_words, write_words, route_words, load_words}
 use Rattle.agreement.specs.Words.{PrintWords, QuickWords, PlanWords, WriteWords, RouteWords, LoadWords, RunWords}
@@ -56,7 +56,7 @@ module _ (s : List ℕ) (lent links : Links) (reading : Reading) (a : Answered s
   pub card_refused : (r : Refusal) → reading ≡ Reading.Refused r → words ≡ card_words (refused (refusal_of r)) → words ≡ card_words (read_card s)
   card_refused r e w = w ∙ ap card_words (sym (refused_of (read_card s) (refusal_of r) (sym a.reading ∙ ap reading_of e)))
 
-pub print_words_lem : (card lent : List ℕ) (r : Printed) (after words : List ℕ) → Printing card lent r after → words ≡ print_words (printedOf r) → PrintWords card lent after words
+pub print_words_lem : (card lent : List ℕ) (r : Printed) (after words : List ℕ) → Printing card lent r after → words ≡ print_words (printed_of r) → PrintWords card lent after words
 print_words_lem card lent r after words a w = record { answer = w ∙ ap print_words a.answer; bytes = a.bytes }
 
 -- the words of the plan writer, with what holds of the plan
@@ -72,7 +72,7 @@ module _ (card lent : List ℕ) (r : Written) (after : List ℕ) (a : Wrote card
 
 -- the words of separate routes, with what holds of them
 module _ (card : List ℕ) (F sources r : ℕ) (lent : List ℕ) (a : Routed) (after : List ℕ) (so : Routes.Answered card F sources r lent a after) (words : List ℕ) where
-  pub route_words_lem : words ≡ route_words (routingOf a) → RouteWords card F sources r lent after words
+  pub route_words_lem : words ≡ route_words (routing_of a) → RouteWords card F sources r lent after words
   route_words_lem w =
       record {
         answer = w ∙ ap route_words so.answer;
@@ -83,15 +83,15 @@ module _ (card : List ℕ) (F sources r : ℕ) (lent : List ℕ) (a : Routed) (a
 
 -- the words of the load, with what the counts add up to
 module _ (card plan lent : List ℕ) (r : Loaded) (after : List ℕ) (a : Load.Answered card plan lent r after) (words : List ℕ) where
-  pub load_words_lem : words ≡ load_words (loadedOf r after) → LoadWords card plan words
+  pub load_words_lem : words ≡ load_words (loaded_of r after) → LoadWords card plan words
   load_words_lem w = record { answer = w ∙ ap load_words a.answer; sum = λ counts q. go r refl counts (sym w ∙ q) }
     where
-      go : (l : Loaded) → r ≡ l → (counts : List ℕ) → load_words (loadedOf l after) ≡ 0 ∷ counts → added counts ≡ places_in plan
+      go : (l : Loaded) → r ≡ l → (counts : List ℕ) → load_words (loaded_of l after) ≡ 0 ∷ counts → added counts ≡ places_in plan
       go Loaded.Counted e counts q = ap added (sym (tail-eq_of_cons-eq q)) ∙ a.sum e
       go (Loaded.Refused g) e counts q = let z : ◌≡◌ {A = ℕ} 2 0 = head-eq_of_cons-eq q in absurd (omega arith)
 
 pub run_words : (card plan inputs : List ℕ) (X : ℕ) (table lent : List ℕ) (r : Ran) (after words : List ℕ) → Run.Answered card plan inputs X table lent r after
-    → words ≡ plan_words (ranOf r) → RunWords card plan inputs X table lent after words
+    → words ≡ plan_words (ran_of r) → RunWords card plan inputs X table lent after words
 run_words card plan inputs X table lent r after words a w =
     record {
       answer = w ∙ ap plan_words a.answer;

@@ -10,14 +10,14 @@ use Rattle.refusal.specs.declared.Refusal.{Refusal}
 use Rattle.network.specs.Card.{Network, network, refused, read_card}
 use Rattle.plan.specs.Check.{Totals, totals, check_plan}
 use Rattle.plan.specs.Check as Check
-use Rattle.plan.specs.Answers.{checkedOf}
+use Rattle.plan.specs.Answers.{checked_of}
 use Rattle.plan.specs.declared.check.Checked.{Checked}
 use Rattle.rules.specs.Theorems.{Accepted}
 use Rattle.rules.proofs.Progress.{turned_totals}
 use Rattle.load.specs.Load.{added, Load, counted, turned, load_call}
 use Rattle.load.specs.Places.{places_in}
 use Rattle.load.specs.Tally.{Tallies}
-use Rattle.load.specs.Answers.{loadedOf, Answered}
+use Rattle.load.specs.Answers.{loaded_of, Answered}
 use Rattle.load.specs.declared.Loaded.{Loaded}
 use Rattle.load.proofs.Main.{card_refused, turned_counted, load_added, tallied}
 
@@ -48,17 +48,17 @@ module _ (card plan lent : List ℕ) where
           let same = tallied card plan n f links e a after t in
           (rw (e, h, same) refl, ap added same ∙ load_added card plan n f links e a)
 
-  module _ (checked : Checked) (c : checkedOf checked ≡ check_plan card plan) where
+  module _ (checked : Checked) (c : checked_of checked ≡ check_plan card plan) where
     pub answer_refused : (r : Refusal) → checked ≡ Checked.Refused r → Answered card plan lent (Loaded.Refused r) lent
     answer_refused r e =
-        let is = turned_is (refusal_of r) (sym c ∙ ap checkedOf e) in
+        let is = turned_is (refusal_of r) (sym c ∙ ap checked_of e) in
         record {
           answer = sym is;
           counts = rw is refl;
-          sum = λ q. turned_counted (refusal_of r) lent (ap (λ (x : Loaded). loadedOf x lent) q);
+          sum = λ q. turned_counted (refusal_of r) lent (ap (λ (x : Loaded). loaded_of x lent) q);
         }
 
     pub answer_counted : (blocks carriages : ℕ) → checked ≡ Checked.Accepted blocks carriages → (after : List ℕ) → Tallies plan after → Answered card plan lent Loaded.Counted after
     answer_counted blocks carriages e after t =
-        let (is, sum) = counted_is blocks carriages (sym c ∙ ap checkedOf e) after t in
+        let (is, sum) = counted_is blocks carriages (sym c ∙ ap checked_of e) after t in
         record { answer = sym is; counts = rw is refl; sum = λ q. sum }

@@ -1,5 +1,5 @@
 -- The calls of a server that stands where a turn or the end is: none is refused. `standing` is such a state, with the values o and no ask open.
---     site-is    the site of an accepted plan
+--     site_is_lem    the site of an accepted plan
 --     starts     where a server starts; asks: what it gives in a kind; commits: where it stands after the kind
 --     ends       at the end an ask gives v, and leaves the state as it was
 -- Assumes nothing.
@@ -27,16 +27,16 @@ abbrev pub IsKind : ℕ → Type 0
 IsKind kind = (ltb 0x10 kind ≡ true) × (ltb kind 0x15 ≡ true) × (eqb kind 0x15 ≡ false)
 
 -- where a server stands after a kind
-abbrev pub blockAfter : ℕ → ℕ → ℕ
-blockAfter j kind = cond (ltb kind 0x14) j (suc j)
+abbrev pub block_after : ℕ → ℕ → ℕ
+block_after j kind = cond (ltb kind 0x14) j (suc j)
 
-abbrev pub kindAfter : ℕ → ℕ → ℕ → ℕ
-kindAfter blocks j kind = cond (ltb kind 0x14) (suc kind) (cond (ltb (suc j) blocks) 0x11 0x15)
+abbrev pub kind_after : ℕ → ℕ → ℕ → ℕ
+kind_after blocks j kind = cond (ltb kind 0x14) (suc kind) (cond (ltb (suc j) blocks) 0x11 0x15)
 
-pub site-is : (card plan : List ℕ) (n f : ℕ) (links : Links) → read_card card ≡ network n f links
+pub site_is_lem : (card plan : List ℕ) (n f : ℕ) (links : Links) → read_card card ≡ network n f links
     → (blocks carriages : ℕ) → check_plan card plan ≡ totals blocks carriages → site_of card plan ≡ site n f blocks
 unfolding site_of
-site-is card plan n f links e blocks carriages q = rw (e, q) refl
+site_is_lem card plan n f links e blocks carriages q = rw (e, q) refl
 
 module _ (card plan : List ℕ) (n f blocks : ℕ) (is : site_of card plan ≡ site n f blocks) (i : ℕ) (below : i < n) where
   pub starts : (x : ℕ) → x < 2 → start_call card plan i x ≡ Stepped.at (first x)
@@ -61,7 +61,7 @@ module _ (card plan : List ℕ) (n f blocks : ℕ) (is : site_of card plan ≡ s
 
   pub commits : (j kind : ℕ) (o : Own) (arrived : List ℕ) → j < blocks → IsKind kind → Small o
       → commit_call card plan i (opened (standing j kind o)) arrived
-      ≡ Stepped.at (standing (blockAfter j kind) (kindAfter blocks j kind) (committed n kind (block_of n f plan j) i arrived o))
+      ≡ Stepped.at (standing (block_after j kind) (kind_after blocks j kind) (committed n kind (block_of n f plan j) i arrived o))
   unfolding commit_call commit_on is_end stands placed opened next next_block next_kind
   commits j kind o arrived h (low, high, kind-is) (v, t) =
       let a = lt-ltb i n below in

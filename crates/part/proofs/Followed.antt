@@ -31,7 +31,7 @@ use Rattle.part.specs.Beside.{Turn, turns, delivered, States, beside_turn, besid
 use Rattle.part.specs.Theorems.{start_values, Follows, StepByStep, StandsAt}
 use Rattle.part.proofs.Delivered.{given_long}
 use Rattle.part.proofs.Committed.{Small, committed_small, own_of, SmallBelow, sent_by}
-use Rattle.part.proofs.Answers.{standing, blockAfter, kindAfter, site-is, starts, asks, commits}
+use Rattle.part.proofs.Answers.{standing, block_after, kind_after, site_is_lem, starts, asks, commits}
 use Rattle.part.proofs.Turns.{Due, Chained, plan_chained}
 
 -- X is the faulty set, `blocks` the number of the plan's blocks
@@ -68,16 +68,16 @@ module _ (card plan : List ℕ) (n f blocks : ℕ) (is : site_of card plan ≡ s
     stepped i h = due.steps run all.small (λ (j : ℕ). values_in (answer j)) (λ j l. ap values_in (answer_is j l)) i h
 
     turn_is : (i : ℕ) → i < n
-        → beside_turn card plan X table turn states i ≡ standing (blockAfter j kind) (kindAfter blocks j kind) (own_of (run_turn n X table turn run) i)
+        → beside_turn card plan X table turn states i ≡ standing (block_after j kind) (kind_after blocks j kind) (own_of (run_turn n X table turn run) i)
     unfolding beside_turn
     turn_is i h =
         let waiting = opened (standing j kind (own_of run i)) in
         ap (λ (w : State). state_after w (commit_call card plan i w (arrived i))) (ap (state_asked (states i)) (answer_is i h))
         ∙ ap (state_after waiting) (commits card plan n f blocks is i h j kind (own_of run i) (arrived i) due.inside due.is (all.small i h))
-        ∙ ap (standing (blockAfter j kind) (kindAfter blocks j kind))
+        ∙ ap (standing (block_after j kind) (kind_after blocks j kind))
         (ap₂ (λ (k : ℕ) (b : Block). committed n k b i (arrived i) (own_of run i)) (sym due.same) (sym due.block) ∙ stepped i h)
 
-    turn_stands : Standing (blockAfter j kind) (kindAfter blocks j kind) (run_turn n X table turn run) (beside_turn card plan X table turn states)
+    turn_stands : Standing (block_after j kind) (kind_after blocks j kind) (run_turn n X table turn run) (beside_turn card plan X table turn states)
     turn_stands =
         record {
           each = turn_is;
@@ -106,7 +106,7 @@ module _ (card plan : List ℕ) (n f blocks : ℕ) (is : site_of card plan ≡ s
   some_stand zero later j kind c run states all i h = follows j kind later c run states all i h
   some_stand (suc m) [] j kind c run states all i h = follows j kind [] c run states all i h
   some_stand (suc m) (turn ∷ later) j kind (due, c) run states all i h =
-      some_stand m later (blockAfter j kind) (kindAfter blocks j kind) c (run_turn n X table turn run) (beside_turn card plan X table turn states)
+      some_stand m later (block_after j kind) (kind_after blocks j kind) c (run_turn n X table turn run) (beside_turn card plan X table turn states)
       (turn_stands j kind turn due run states all) i h
 
   all_stand : (later : List Turn) (j kind : ℕ) → Chained n f plan blocks X table j kind later
@@ -116,7 +116,7 @@ module _ (card plan : List ℕ) (n f blocks : ℕ) (is : site_of card plan ≡ s
   all_stand [] j kind (last, end) run states all =
       record { each = λ i h. all.each i h ∙ ap₂ (λ (j kind : ℕ). standing j kind (own_of run i)) last end; small = all.small }
   all_stand (turn ∷ later) j kind (due, c) run states all =
-      all_stand later (blockAfter j kind) (kindAfter blocks j kind) c (run_turn n X table turn run) (beside_turn card plan X table turn states)
+      all_stand later (block_after j kind) (kind_after blocks j kind) c (run_turn n X table turn run) (beside_turn card plan X table turn states)
       (turn_stands j kind turn due run states all)
 
   begin_stand : n ≤ 8 → (inputs : List ℕ) → are_bits inputs ≡ true → Standing 0 0x11 (start_values inputs) (start_beside card plan inputs)
@@ -137,7 +137,7 @@ module _ (card plan inputs : List ℕ) (X : ℕ) (table : List ℕ) (n f : ℕ) 
   whole = turns 0 (decode_plan n f plan)
 
   pub is_site : site_of card plan ≡ site n f blocks
-  is_site = site-is card plan n f links e blocks carriages checked
+  is_site = site_is_lem card plan n f links e blocks carriages checked
 
   chained : Chained n f plan blocks X table 0 0x11 whole
   chained = plan_chained n f plan blocks X table card links e carriages checked

@@ -34,7 +34,7 @@ use Rattle.part.specs.State.{State, is_end, placed, stands}
 use Rattle.part.specs.Calls.{Asked, from_block, block_of, site, values_due, ask_on, ask_call}
 use Rattle.part.specs.Theorems.{AsksShort}
 use Rattle.part.proofs.Delivered.{given_long}
-use Rattle.part.proofs.Answers.{site-is}
+use Rattle.part.proofs.Answers.{site_is_lem}
 
 block_among_blocks : (n f : ℕ) (s : List ℕ) (j k : ℕ) → j < k → Memᴰ (block_of n f s j) (decode_blocks n f s k)
 unfolding block_of from_block decode_blocks
@@ -122,7 +122,7 @@ held_number (Asked.held r) = number_of r
 pub asks_short : AsksShort
 unfolding ask_call ask_on
 asks_short card plan n f links e (blocks, carriages, q) i s lent room refused =
-    let number : held_number (ask_on (site n f blocks) plan i s lent) ≡ 14 = ap held_number (rw (site-is card plan n f links e blocks carriages q) at refused) in
+    let number : held_number (ask_on (site n f blocks) plan i s lent) ≡ 14 = ap held_number (rw (site_is_lem card plan n f links e blocks carriages q) at refused) in
     cases (ltb i n && stands blocks s)
     (λ ok. let few = values_short card plan n f links e blocks carriages q i s (and_right (ltb i n) (stands blocks s) ok) in
     let l = le-ltb (length lent) (length (values_due n f plan i s)) (omega arith) in

@@ -33,7 +33,7 @@ use Rattle.steps.proofs.Planned.{planned_covers}
 use Rattle.part.specs.Calls.{from_block, block_of}
 use Rattle.part.specs.Beside.{Turn, turns}
 use Rattle.part.proofs.Committed.{AsRun, inward_kind, among_kind, outward_kind, reports_kind}
-use Rattle.part.proofs.Answers.{IsKind, blockAfter, kindAfter}
+use Rattle.part.proofs.Answers.{IsKind, block_after, kind_after}
 
 from_next : (n f : ℕ) (s : List ℕ) (j : ℕ) → from_block n f s (suc j) ≡ drop (length_of (block_of n f s j)) (from_block n f s j)
 unfolding from_block block_of
@@ -66,7 +66,7 @@ module _ (n f : ℕ) (plan : List ℕ) (blocks X : ℕ) (table : List ℕ) where
   -- the turns from a kind of block j on, to the end
   abbrev pub Chained : ℕ → ℕ → List Turn → Type 0
   Chained j kind [] = (j ≡ blocks) × (kind ≡ 0x15)
-  Chained j kind (turn ∷ later) = Due j kind turn × Chained (blockAfter j kind) (kindAfter blocks j kind) later
+  Chained j kind (turn ∷ later) = Due j kind turn × Chained (block_after j kind) (kind_after blocks j kind) later
 
   abbrev InRules : Links → Block → Type 0
   InRules links b = (d : DueBlock) × InBlock n f links d b

@@ -20,7 +20,7 @@ use Rattle.plan.specs.Due.{DueBlock, Group, blocks_of, fan, to_one, pairs, route
 use Rattle.route.specs.Route.{route_set}
 use Rattle.route.specs.Commands.{width, is_cut}
 use Rattle.plan.specs.Check.{Progress, reached, stopped, and_then, onward, is_due, is_report, route_at, check_group, check_groups, check_reports, check_block, check_blocks}
-use Rattle.plan.specs.Answers.{progressOf, group_of}
+use Rattle.plan.specs.Answers.{progress_of, group_of}
 use Rattle.plan.specs.declared.check.Progress as Code
 use Rattle.plan.proofs.Groups.{whole_command}
 use Rattle.plan.proofs.Joins.{groups_append}
@@ -55,8 +55,8 @@ bound_more limit (reached a c) b = (b.0, omega arith)
 bound_more limit (stopped number place) b = b
 
 -- the bound of a check is that of the code's progress
-pub code_bound : (m limit : ℕ) (x : Progress) → Bound m limit x → (y : Code.Progress) → progressOf y ≡ x → (a c : ℕ) → y ≡ Code.Progress.Reached a c → (a ≤ limit) × (c ≤ m * a)
-code_bound m limit x b y z a c r = let e : x ≡ reached a c = sym z ∙ ap progressOf r in rw e at b
+pub code_bound : (m limit : ℕ) (x : Progress) → Bound m limit x → (y : Code.Progress) → progress_of y ≡ x → (a c : ℕ) → y ≡ Code.Progress.Reached a c → (a ≤ limit) × (c ≤ m * a)
+code_bound m limit x b y z a c r = let e : x ≡ reached a c = sym z ∙ ap progress_of r in rw e at b
 
 -- the steps for a list that are left give the answer `whole`, and the place and the carriages keep the bound
 pub record Walking (m len : ℕ) (step : ℕ → ℕ → ℕ → Progress) (xs : List ℕ) (whole : Progress) (at carriages : ℕ) : Type 0 where
@@ -84,12 +84,12 @@ module _ {m len : ℕ} {step : ℕ → ℕ → ℕ → Progress} {xs : List ℕ}
     walking_goes b r = let k = rw r at b in record { inside = k.0; few = k.1; gives = rw r at next }
 
     -- the same for the code's progress
-    module _ {y : Code.Progress} (z : progressOf y ≡ step x at carriages) where
-      pub walking_halts : {g : PlanGround} → y ≡ Code.Progress.Stopped g → progressOf (Code.Progress.Stopped g) ≡ whole
-      walking_halts r = walking_stops (sym z ∙ ap progressOf r)
+    module _ {y : Code.Progress} (z : progress_of y ≡ step x at carriages) where
+      pub walking_halts : {g : PlanGround} → y ≡ Code.Progress.Stopped g → progress_of (Code.Progress.Stopped g) ≡ whole
+      walking_halts r = walking_stops (sym z ∙ ap progress_of r)
 
       pub walking_moves : Bound m len (step x at carriages) → {a c : ℕ} → y ≡ Code.Progress.Reached a c → Walking m len step ys whole a c
-      walking_moves b r = walking_goes b (sym z ∙ ap progressOf r)
+      walking_moves b r = walking_goes b (sym z ∙ ap progress_of r)
 
 module _ (W : ℕ) (links : Links) (s : List ℕ) where
   pub group_bound : (g : Group) → width g.command ≡ 9 → (k at carriages used : ℕ) → at ≤ length s → carriages ≤ 1 * at

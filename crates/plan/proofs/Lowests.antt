@@ -21,7 +21,7 @@ use Rattle.sets.proofs.LowestMember.{lowest_in}
 use Rattle.network.specs.Links.{Links}
 use Rattle.plan.specs.Members.{list_from, members}
 use Rattle.plan.specs.Check.{Progress, reached, and_then}
-use Rattle.plan.specs.Answers.{progressOf}
+use Rattle.plan.specs.Answers.{progress_of}
 use Rattle.plan.specs.declared.check.Progress as Code
 use Rattle.plan.proofs.Joins.{then_same}
 use Rattle.plan.proofs.Walks.{walk, toOneStep, to_one_self}
@@ -125,8 +125,8 @@ module _ {m len : ℕ} {step : ℕ → ℕ → ℕ → Progress} {left : ℕ} {w
   pub taking_ends : left ≡ 0 → reached at carriages ≡ whole
   taking_ends z = walking_ends t.walking (ap members z ∙ members_none)
 
-  module _ {x next : ℕ} (k : Taken left x next) {y : Code.Progress} (z : progressOf y ≡ step x at carriages) where
-    pub taking_halts : {g : PlanGround} → y ≡ Code.Progress.Stopped g → progressOf (Code.Progress.Stopped g) ≡ whole
+  module _ {x next : ℕ} (k : Taken left x next) {y : Code.Progress} (z : progress_of y ≡ step x at carriages) where
+    pub taking_halts : {g : PlanGround} → y ≡ Code.Progress.Stopped g → progress_of (Code.Progress.Stopped g) ≡ whole
     taking_halts r = walking_halts t.walking k.split z r
 
     pub taking_moves : {a c : ℕ} → y ≡ Code.Progress.Reached a c → Taking m len step next whole a c

@@ -21,7 +21,7 @@ use Rattle.network.proofs.Heads.{network_is, refused_of}
 use Rattle.plan.specs.Members.{list_from}
 use Rattle.plan.specs.Due.{is_part, blocks_of, due}
 use Rattle.plan.specs.Check.{Progress, reached, and_then, check_blocks, check_end, Totals, totals, turned, totals_of, check_on, check_plan}
-use Rattle.plan.specs.Answers.{progressOf}
+use Rattle.plan.specs.Answers.{progress_of}
 use Rattle.plan.specs.declared.check.Progress as Code
 use Rattle.plan.proofs.Cuts.{full_few, few}
 use Rattle.plan.proofs.Walks.{list_next, list_skip, list_done, faultStep, blocks_walk}
@@ -53,8 +53,8 @@ module _ {n f : ℕ} {links : Links} {s : List ℕ} {limit i at carriages : ℕ}
     pub going_skips : f < get_or sizes i 0 → Going n f links s limit (i + 1) at carriages
     going_skips o = record { most = omega arith; sets = g.sets; walking = walking_same g.walking (list_skip limit i (few f) h (test ∙ lt-leb _ f o)) }
 
-    module _ (d : get_or sizes i 0 ≤ f) {y : Code.Progress} (z : progressOf y ≡ check_blocks n f links s (blocks_of i (list_from (2 ^ n) 0 (is_part (minus (full n) i)))) at carriages) where
-      pub going_halts : {b : PlanGround} → y ≡ Code.Progress.Stopped b → progressOf (Code.Progress.Stopped b) ≡ check_blocks n f links s (due n f) 0 0
+    module _ (d : get_or sizes i 0 ≤ f) {y : Code.Progress} (z : progress_of y ≡ check_blocks n f links s (blocks_of i (list_from (2 ^ n) 0 (is_part (minus (full n) i)))) at carriages) where
+      pub going_halts : {b : PlanGround} → y ≡ Code.Progress.Stopped b → progress_of (Code.Progress.Stopped b) ≡ check_blocks n f links s (due n f) 0 0
       unfolding faultStep
       going_halts r = walking_halts g.walking (list_next limit i (few f) h (test ∙ le-leb _ f d)) z r
 
@@ -92,17 +92,17 @@ module _ (n f : ℕ) (links : Links) (s : List ℕ) where
     unfolding check_on
     on_is x e = ap (totals_of (length (due n f))) e ∙ sym (simp (le-ltb _ _ h))
 
-    on_refused : (g : PlanGround) → progressOf (Code.Progress.Stopped g) ≡ and_then (check_blocks n f links s (due n f) 0 0) (λ (at carriages : ℕ). check_end s at carriages)
+    on_refused : (g : PlanGround) → progress_of (Code.Progress.Stopped g) ≡ and_then (check_blocks n f links s (due n f) 0 0) (λ (at carriages : ℕ). check_end s at carriages)
         → turned (plan_refusal g) ≡ check_on (network n f links) s
-    on_refused g e = ap turned (sym (ground_is g)) ∙ on_is (progressOf (Code.Progress.Stopped g)) e
+    on_refused g e = ap turned (sym (ground_is g)) ∙ on_is (progress_of (Code.Progress.Stopped g)) e
 
-    module _ (x : Code.Progress) (e : progressOf x ≡ check_blocks n f links s (due n f) 0 0) where
+    module _ (x : Code.Progress) (e : progress_of x ≡ check_blocks n f links s (due n f) 0 0) where
       pub on_halts : (g : PlanGround) → x ≡ Code.Progress.Stopped g → turned (plan_refusal g) ≡ check_on (network n f links) s
       on_halts g r = on_refused g (halts_then _ (λ (at carriages : ℕ). check_end s at carriages) x e g r)
 
-      module _ (at carriages : ℕ) (r : x ≡ Code.Progress.Reached at carriages) (y : Code.Progress) (d : progressOf y ≡ check_end s at carriages) where
-        ended : (v : Code.Progress) → y ≡ v → progressOf v ≡ and_then (check_blocks n f links s (due n f) 0 0) (λ (a c : ℕ). check_end s a c)
-        ended v q = moves_then _ (λ (a c : ℕ). check_end s a c) x e at carriages r (progressOf v) (sym (ap progressOf q) ∙ d)
+      module _ (at carriages : ℕ) (r : x ≡ Code.Progress.Reached at carriages) (y : Code.Progress) (d : progress_of y ≡ check_end s at carriages) where
+        ended : (v : Code.Progress) → y ≡ v → progress_of v ≡ and_then (check_blocks n f links s (due n f) 0 0) (λ (a c : ℕ). check_end s a c)
+        ended v q = moves_then _ (λ (a c : ℕ). check_end s a c) x e at carriages r (progress_of v) (sym (ap progress_of q) ∙ d)
 
         pub on_stops : (g : PlanGround) → y ≡ Code.Progress.Stopped g → turned (plan_refusal g) ≡ check_on (network n f links) s
         on_stops g q = on_refused g (ended (Code.Progress.Stopped g) q)

@@ -15,7 +15,7 @@ use Rattle.network.specs.Links.{Links}
 use Rattle.plan.specs.Members.{list_from}
 use Rattle.plan.specs.Due.{is_part, blocks_of}
 use Rattle.plan.specs.Check.{reached, onward, check_block, check_blocks}
-use Rattle.plan.specs.Answers.{progressOf, dueOf}
+use Rattle.plan.specs.Answers.{progress_of, due_of}
 use Rattle.plan.specs.declared.check.Progress as Code
 use Rattle.plan.proofs.Groups.{part_rest}
 use Rattle.plan.proofs.Walks.{list_next, list_skip, list_done, blockStep, cuts_walk}
@@ -64,17 +64,17 @@ module _ {n f : ℕ} {links : Links} {s : List ℕ} {F start before limit sound 
   bounded : Bound 256 (length s) (blockStep n f links s F p at carriages)
   bounded = let g = d.cutting in step_bound n f links g.small s F p at carriages g.walking.inside g.walking.few
 
-  module _ {k : Code.Progress} (z : progressOf k ≡ check_block n f links (take (length s - at) (drop at s)) (dueOf F p)) where
-    stepped : {v : Code.Progress} → k ≡ v → blockStep n f links s F p at carriages ≡ onward at carriages (progressOf v)
+  module _ {k : Code.Progress} (z : progress_of k ≡ check_block n f links (take (length s - at) (drop at s)) (due_of F p)) where
+    stepped : {v : Code.Progress} → k ≡ v → blockStep n f links s F p at carriages ≡ onward at carriages (progress_of v)
     unfolding blockStep
-    stepped r = ap (onward at carriages) (sym (z ∙ ap (λ (t : List ℕ). check_block n f links t (dueOf F p)) (part_rest s at)) ∙ ap progressOf r)
+    stepped r = ap (onward at carriages) (sym (z ∙ ap (λ (t : List ℕ). check_block n f links t (due_of F p)) (part_rest s at)) ∙ ap progress_of r)
 
     module _ {g : PlanGround} (r : k ≡ Code.Progress.Stopped g) where
       pub block_placed : (1 < number_of (plan_refusal g)) × (at + place_of (plan_refusal g) < 4294967296)
       block_placed = let b = rw (stepped r) at bounded in let l = d.cutting.short in (b.0, omega arith)
 
       pub block_halts : (g' : PlanGround) → (number_of (plan_refusal g') ≡ number_of (plan_refusal g)) × (place_of (plan_refusal g') ≡ at + place_of (plan_refusal g))
-          → progressOf (Code.Progress.Stopped g') ≡ check_blocks n f links s (blocks_of F (list_from (2 ^ n) 0 (is_part (minus (full n) F)))) start before
+          → progress_of (Code.Progress.Stopped g') ≡ check_blocks n f links s (blocks_of F (list_from (2 ^ n) 0 (is_part (minus (full n) F)))) start before
       block_halts g' e = rw (e.0, e.1) (walking_stops d.cutting.walking first (stepped r))
 
     pub block_moves : {a c : ℕ} → k ≡ Code.Progress.Reached a c → Cutting n f links s F start before limit sound (p + 1) (at + a) (carriages + c)

@@ -8,7 +8,7 @@ ghost use Rattle.plan.specs.Members.{list_from, members};
 ghost use Rattle.plan.specs.Due.{is_part, blocks_of, due, fan, to_one, pairs, routes_due};
 ghost use Rattle.route.specs.Commands.{width, is_cut};
 ghost use Rattle.plan.specs.Check.{and_then, check_group, check_groups, all_linked, is_report, check_reports, check_block, check_blocks, check_end, check_on, check_plan};
-ghost use Rattle.plan.specs.Answers.{progressOf, group_of, dueOf, checkedOf};
+ghost use Rattle.plan.specs.Answers.{progress_of, group_of, due_of, checked_of};
 
 use network::card::Reading;
 use network::{card, links};
@@ -62,7 +62,7 @@ fn check_group(
     count: usize,
 ) -> Progress
     requires { (width command ≡ 9) × (before ≤ start) }
-    ensures { progressOf result ≡ check_group sound (links_of rows.now) plan.now (group_of command sources receiver count) count start before 0 }
+    ensures { progress_of result ≡ check_group sound (links_of rows.now) plan.now (group_of command sources receiver count) count start before 0 }
 {
     let mut at = start;
     let mut carriages = before;
@@ -99,7 +99,7 @@ fn check_one(
     receiver: u8,
 ) -> Progress
     requires { before ≤ at }
-    ensures { progressOf result ≡ check_group sound (links_of rows.now) plan.now (group_of 18 sources receiver 1) 1 at before 0 }
+    ensures { progress_of result ≡ check_group sound (links_of rows.now) plan.now (group_of 18 sources receiver 1) 1 at before 0 }
 {
     if is_route_due(plan, at, 18) {} else {
         return Progress::Stopped(not_due(plan, at));
@@ -130,7 +130,7 @@ fn check_fan(
     f: u8,
 ) -> Progress
     requires { (width command ≡ 9) × (before ≤ start) × (start ≤ length plan.now) }
-    ensures { progressOf result ≡ check_groups sound (links_of rows.now) plan.now (fan f command sources (members receivers)) start before }
+    ensures { progress_of result ≡ check_groups sound (links_of rows.now) plan.now (fan f command sources (members receivers)) start before }
 {
     let count = (f as usize) + 1;
     let mut at = start;
@@ -170,7 +170,7 @@ fn check_to_one(
     receiver: u8,
 ) -> Progress
     requires { (before ≤ start) × (start ≤ length plan.now) × (receiver < 8) }
-    ensures { progressOf result ≡ check_groups sound (links_of rows.now) plan.now (to_one receiver (members quorum)) start before }
+    ensures { progress_of result ≡ check_groups sound (links_of rows.now) plan.now (to_one receiver (members quorum)) start before }
 {
     let mut at = start;
     let mut carriages = before;
@@ -207,7 +207,7 @@ fn check_pairs(
     quorum: u8,
 ) -> Progress
     requires { (before ≤ start) × (start ≤ length plan.now) }
-    ensures { progressOf result ≡ check_groups sound (links_of rows.now) plan.now (pairs (members quorum) (members quorum)) start before }
+    ensures { progress_of result ≡ check_groups sound (links_of rows.now) plan.now (pairs (members quorum) (members quorum)) start before }
 {
     let mut at = start;
     let mut carriages = before;
@@ -275,7 +275,7 @@ fn check_reports(
     before: usize,
 ) -> Progress
     requires { (n ≤ 8) × (before ≤ start) × (start ≤ length plan.now) }
-    ensures { progressOf result ≡ check_reports n f (links_of rows.now) fault plan.now (members fault) start before }
+    ensures { progress_of result ≡ check_reports n f (links_of rows.now) fault plan.now (members fault) start before }
 {
     let count = (f as usize) + 1;
     let mut at = start;
@@ -314,7 +314,7 @@ fn check_outward(
     before: usize,
 ) -> Progress
     requires { (n ≤ 8) × (before ≤ start) × (start ≤ length block.now) }
-    ensures { progressOf result ≡ and_then (check_groups (minus (full n) fault) (links_of rows.now) block.now (fan f 19 quorum (members (minus (minus (full n) fault) quorum))) start before) (λ at carriages. check_reports n f (links_of rows.now) fault block.now (members fault) at carriages) }
+    ensures { progress_of result ≡ and_then (check_groups (minus (full n) fault) (links_of rows.now) block.now (fan f 19 quorum (members (minus (minus (full n) fault) quorum))) start before) (λ at carriages. check_reports n f (links_of rows.now) fault block.now (members fault) at carriages) }
 {
     let sound = sets::minus(sets::full(n), fault);
     let others = sets::minus(sound, quorum);
@@ -339,7 +339,7 @@ fn check_among(
     before: usize,
 ) -> Progress
     requires { (n ≤ 8) × (before ≤ start) × (start ≤ length block.now) }
-    ensures { progressOf result ≡ and_then (check_groups (minus (full n) fault) (links_of rows.now) block.now (pairs (members quorum) (members quorum)) start before) (λ a c. and_then (check_groups (minus (full n) fault) (links_of rows.now) block.now (fan f 19 quorum (members (minus (minus (full n) fault) quorum))) a c) (λ at carriages. check_reports n f (links_of rows.now) fault block.now (members fault) at carriages)) }
+    ensures { progress_of result ≡ and_then (check_groups (minus (full n) fault) (links_of rows.now) block.now (pairs (members quorum) (members quorum)) start before) (λ a c. and_then (check_groups (minus (full n) fault) (links_of rows.now) block.now (fan f 19 quorum (members (minus (minus (full n) fault) quorum))) a c) (λ at carriages. check_reports n f (links_of rows.now) fault block.now (members fault) at carriages)) }
 {
     let sound = sets::minus(sets::full(n), fault);
     let among = check_pairs(sound, rows, block, start, before, quorum);
@@ -362,7 +362,7 @@ fn check_rest(
     block: &[u8],
 ) -> Progress
     requires { (n ≤ 8) × (4 ≤ length block.now) }
-    ensures { progressOf result ≡ and_then (check_groups (minus (full n) fault) (links_of rows.now) block.now (routes_due n f fault side quorum) 4 0) (λ at carriages. check_reports n f (links_of rows.now) fault block.now (members fault) at carriages) }
+    ensures { progress_of result ≡ and_then (check_groups (minus (full n) fault) (links_of rows.now) block.now (routes_due n f fault side quorum) 4 0) (λ at carriages. check_reports n f (links_of rows.now) fault block.now (members fault) at carriages) }
 {
     let sound = sets::minus(sets::full(n), fault);
     let receivers = sets::minus(quorum, side);
@@ -389,7 +389,7 @@ fn is_side(sound: u8, part: u8, side: u8) -> bool
 // 10 command.
 fn check_block(n: u8, f: u8, rows: &[u8; 8], fault: u8, part: u8, block: &[u8]) -> Progress
     requires { n ≤ 8 }
-    ensures { progressOf result ≡ check_block n f (links_of rows.now) block.now (dueOf fault part) }
+    ensures { progress_of result ≡ check_block n f (links_of rows.now) block.now (due_of fault part) }
 {
     if command::is_cut(block, 0) {
         return Progress::Stopped(PlanGround::Cut(0));
@@ -457,7 +457,7 @@ fn check_cuts(
     fault: u8,
 ) -> Progress
     requires { (n ≤ 8) × (start ≤ length plan.now) × (before ≤ 256 * start) × (length plan.now ≤ 1048576) }
-    ensures { progressOf result ≡ check_blocks n f (links_of rows.now) plan.now (blocks_of fault (list_from (2 ^ n) 0 (is_part (minus (full n) fault)))) start before }
+    ensures { progress_of result ≡ check_blocks n f (links_of rows.now) plan.now (blocks_of fault (list_from (2 ^ n) 0 (is_part (minus (full n) fault)))) start before }
 {
     let servers = sets::full(n);
     let sound = sets::minus(servers, fault);
@@ -489,7 +489,7 @@ fn check_cuts(
 // The blocks of each F of at most f servers, ascending.
 fn check_blocks(n: u8, f: u8, rows: &[u8; 8], plan: &[u8]) -> Progress
     requires { (n ≤ 8) × (length plan.now ≤ 1048576) }
-    ensures { progressOf result ≡ check_blocks n f (links_of rows.now) plan.now (due n f) 0 0 }
+    ensures { progress_of result ≡ check_blocks n f (links_of rows.now) plan.now (due n f) 0 0 }
 {
     let sizes = sets::sizes();
     let limit = (sets::full(n) as u16) + 1;
@@ -518,7 +518,7 @@ fn check_blocks(n: u8, f: u8, rows: &[u8; 8], plan: &[u8]) -> Progress
 
 // 15 after the last block, and nothing after it.
 fn check_end(plan: &[u8], at: usize, carriages: usize) -> Progress
-    ensures { progressOf result ≡ check_end plan.now at carriages }
+    ensures { progress_of result ≡ check_end plan.now at carriages }
 {
     if command::is_cut(plan, at) {
         return Progress::Stopped(PlanGround::Cut(at));
@@ -579,7 +579,7 @@ pub enum Checked {
 // The plan for the network of n, f and the links.
 fn check_on(n: u8, f: u8, links: [[bool; 8]; 8], plan: &[u8]) -> Checked
     requires { n ≤ 8 }
-    ensures { checkedOf result ≡ check_on (network n f links) plan.now }
+    ensures { checked_of result ≡ check_on (network n f links) plan.now }
 {
     if 1048576 < plan.len() {
         return Checked::Refused(Refusal::Plan(PlanGround::TooLong));
@@ -606,7 +606,7 @@ fn check_on(n: u8, f: u8, links: [[bool; 8]; 8], plan: &[u8]) -> Checked
 
 // The plan check: how many blocks and carriages the plan has, or the one refusal, the card's first.
 pub fn check_plan(card: &[u8], plan: &[u8]) -> Checked
-    ensures { checkedOf result ≡ check_plan card.now plan.now }
+    ensures { checked_of result ≡ check_plan card.now plan.now }
 {
     let mut links = [[false; 8]; 8];
     let reading = card::read_card(card, &mut links);

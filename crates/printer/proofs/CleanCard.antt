@@ -20,7 +20,7 @@ use Rattle.network.specs.Links.{Links}
 use Rattle.network.specs.Card.{read_card, head, turned, head_of, links_after}
 use Rattle.network.proofs.Heads.{network_is, refused_of}
 use Rattle.printer.specs.Print.{Link, link_bytes, card_bytes, ascending, print_card, clean_card, wrote, unwritten, fitting, print_into, after_print, printed_in}
-use Rattle.printer.specs.Answers.{printedOf, Printing}
+use Rattle.printer.specs.Answers.{printed_of, Printing}
 use Rattle.printer.specs.declared.Printed.{Printed}
 
 -- head and links laid leave the buffer as long as it was
@@ -67,7 +67,7 @@ module _ (s lent : List ℕ) where
       record { answer = rw q refl; bytes = rw q refl }
 
   pub printed_network : (n f : ℕ) (before links : Links) → head_of (read_card s) ≡ head n f → links ≡ links_after (read_card s) before
-      → (r : Printed) (after : List ℕ) → (printedOf r ≡ fitting (print_card n f links) lent) × (after ≡ after_print (printedOf r) (print_card n f links) lent)
+      → (r : Printed) (after : List ℕ) → (printed_of r ≡ fitting (print_card n f links) lent) × (after ≡ after_print (printed_of r) (print_card n f links) lent)
       → Printing s lent r after
   unfolding print_into printed_in clean_card
   printed_network n f before links e l r after (a, b) =

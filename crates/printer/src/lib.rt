@@ -5,7 +5,7 @@
 ghost use Rattle.std.specs.Prelude.{◌≡◌, ◌+◌, ◌≤◌, length};
 ghost use Rattle.facts.specs.Laid.{laid};
 ghost use Rattle.printer.specs.Print.{link_bytes, ascending, print_card, fitting, after_print};
-ghost use Rattle.printer.specs.Answers.{printedOf, Printing};
+ghost use Rattle.printer.specs.Answers.{printed_of, Printing};
 
 use network::card;
 use network::card::Reading;
@@ -54,7 +54,7 @@ fn write_links(links: [[bool; 8]; 8], lent: &mut [u8])
 
 // The card of this network, if the lent buffer has room for it.
 fn print_network(n: u8, f: u8, links: [[bool; 8]; 8], lent: &mut [u8]) -> Printed
-    ensures { (printedOf result ≡ fitting (print_card n f links) lent.old) × (lent.new ≡ after_print (printedOf result) (print_card n f links) lent.old) }
+    ensures { (printed_of result ≡ fitting (print_card n f links) lent.old) × (lent.new ≡ after_print (printed_of result) (print_card n f links) lent.old) }
 {
     let room = lent.len();
     let bytes = card_length(links);

@@ -35,7 +35,7 @@ use Rattle.flow.specs.Theorems.{Found, CutOff, sought}
 use Rattle.flow.proofs.Finding.{finds}
 use Rattle.flow.proofs.Cutting.{cuts}
 use Rattle.routes.specs.Routing.{routed, cut_off, unrouted, call_fits, operands, answer_to, answer_for, route_into, operands_of, after_routes, routed_in}
-use Rattle.routes.specs.Answers.{routingOf, Answered}
+use Rattle.routes.specs.Answers.{routing_of, Answered}
 use Rattle.routes.specs.declared.Routed.{Routed}
 use Rattle.routes.proofs.Laying.{operands_long, routes_long, routes_many}
 
@@ -87,8 +87,8 @@ module _ (n f : ℕ) (links : Links) (F sources r : ℕ) (lent : List ℕ) (b : 
       count_is = sym (routes_many s.flow r) ∙ (finds n f links p F sources r (f + 1) (routes_of s.flow r) routes_are).many
 
       pub answer_routes : (a : Routed) (after : List ℕ)
-          → (routingOf a ≡ answer_to (size s.flow.start) (routes (routes_of s.flow r)) lent) × (after ≡ after_routes (routingOf a) (operands (routes_of s.flow r)) lent)
-          → (routingOf a ≡ answer_for n f links F sources r lent) × (after ≡ after_routes (routingOf a) (operands_of (sought n links F sources r (f + 1))) lent)
+          → (routing_of a ≡ answer_to (size s.flow.start) (routes (routes_of s.flow r)) lent) × (after ≡ after_routes (routing_of a) (operands (routes_of s.flow r)) lent)
+          → (routing_of a ≡ answer_for n f links F sources r lent) × (after ≡ after_routes (routing_of a) (operands_of (sought n links F sources r (f + 1))) lent)
       answer_routes a after (x, y) = (let z = rw count_is at x in z ∙ sym (answer_is ∙ rw routes_are refl), rw routes_are y)
 
 -- the theorems on the search
@@ -137,7 +137,7 @@ module _ (n f : ℕ) (links : Links) (p : Proper n f links) (F sources r : ℕ) 
 
 module _ (s : List ℕ) (F sources r : ℕ) (lent : List ℕ) where
   -- of the answer and the bytes that are defined, the theorems hold
-  answered_so : (a : Routed) (after : List ℕ) → routingOf a ≡ route_into s F sources r lent → after ≡ routed_in s F sources r lent → Answered s F sources r lent a after
+  answered_so : (a : Routed) (after : List ℕ) → routing_of a ≡ route_into s F sources r lent → after ≡ routed_in s F sources r lent → Answered s F sources r lent a after
   unfolding route_into routed_in
   answered_so a after x y =
       record {
@@ -160,7 +160,7 @@ module _ (s : List ℕ) (F sources r : ℕ) (lent : List ℕ) where
       answered_so (Routed.Refused w) lent (rw q refl) (rw q refl)
 
   pub answered_network : (n f : ℕ) (before links : Links) → head_of (read_card s) ≡ head n f → links ≡ links_after (read_card s) before
-      → (a : Routed) (after : List ℕ) → (routingOf a ≡ answer_for n f links F sources r lent) × (after ≡ after_routes (routingOf a) (operands_of (sought n links F sources r (f + 1))) lent)
+      → (a : Routed) (after : List ℕ) → (routing_of a ≡ answer_for n f links F sources r lent) × (after ≡ after_routes (routing_of a) (operands_of (sought n links F sources r (f + 1))) lent)
       → Answered s F sources r lent a after
   unfolding route_into routed_in
   answered_network n f before links e l a after (x, y) =

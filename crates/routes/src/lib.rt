@@ -12,7 +12,7 @@ ghost use Rattle.network.specs.Proper.{Proper};
 ghost use Rattle.flow.specs.Search.{flow_to};
 ghost use Rattle.flow.specs.Theorems.{sought};
 ghost use Rattle.routes.specs.Routing.{call_fits, answer_for, operands_of, after_routes};
-ghost use Rattle.routes.specs.Answers.{routingOf, Answered};
+ghost use Rattle.routes.specs.Answers.{routing_of, Answered};
 
 use crate::write::write_routes;
 use flow::Sought;
@@ -75,7 +75,7 @@ fn routes_in(
     lent: &mut [u8],
 ) -> Routed
     requires { Proper n f links }
-    ensures { (routingOf result ≡ answer_for n f links faults sources receiver lent.old) × (lent.new ≡ after_routes (routingOf result) (operands_of (sought n links faults sources receiver (f + 1))) lent.old) }
+    ensures { (routing_of result ≡ answer_for n f links faults sources receiver lent.old) × (lent.new ≡ after_routes (routing_of result) (operands_of (sought n links faults sources receiver (f + 1))) lent.old) }
 {
     if call_fits(n, f, faults, sources, receiver) {
         let found = search_for(n, f, links, faults, sources, receiver);

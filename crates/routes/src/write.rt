@@ -4,7 +4,7 @@ ghost use Rattle.facts.specs.Laid.{laid};
 ghost use Rattle.sets.specs.Sets.{size};
 ghost use Rattle.flow.specs.Routes.{routes, routes_of};
 ghost use Rattle.routes.specs.Routing.{operands, answer_to, after_routes};
-ghost use Rattle.routes.specs.Answers.{routingOf};
+ghost use Rattle.routes.specs.Answers.{routing_of};
 
 use crate::Routed;
 use flow::Flow;
@@ -43,7 +43,7 @@ fn lay_routes(flow: Flow, receiver: u8, lent: &mut [u8])
 
 // The routes of the flow, if the lent buffer has room for them.
 pub(crate) fn write_routes(flow: Flow, receiver: u8, lent: &mut [u8]) -> Routed
-    ensures { (routingOf result ≡ answer_to (size flow.start) (routes (routes_of flow receiver)) lent.old) × (lent.new ≡ after_routes (routingOf result) (operands (routes_of flow receiver)) lent.old) }
+    ensures { (routing_of result ≡ answer_to (size flow.start) (routes (routes_of flow receiver)) lent.old) × (lent.new ≡ after_routes (routing_of result) (operands (routes_of flow receiver)) lent.old) }
 {
     let room = lent.len();
     let count = sets::size(flow.start) as usize;

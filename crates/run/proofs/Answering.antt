@@ -19,13 +19,13 @@ use Rattle.network.proofs.Heads.{network_is, refused_of}
 use Rattle.network.proofs.Main.{card_proper}
 use Rattle.plan.specs.Due.{due}
 use Rattle.plan.specs.Check.{totals, turned, check_plan}
-use Rattle.plan.specs.Answers.{checkedOf}
+use Rattle.plan.specs.Answers.{checked_of}
 use Rattle.plan.specs.declared.check.Checked.{Checked}
 use Rattle.rules.specs.Blocks.{decode_blocks, decode_plan}
 use Rattle.steps.specs.Steps.{held, values, run_blocks}
 use Rattle.steps.specs.Run.{check_call, run_on, run_plan, decided, written, after_answer, lent_after}
 use Rattle.carriage.specs.Openings.{Runnable}
-use Rattle.run.specs.Answers.{ranOf, Answered}
+use Rattle.run.specs.Answers.{ran_of, Answered}
 use Rattle.run.specs.declared.call.Ran.{Ran}
 use Rattle.carriage.proofs.Accepting.{accepted_blocks}
 use Rattle.steps.proofs.Decides.{demand}
@@ -41,9 +41,9 @@ module _ (card : List ℕ) (before links : Links) (reading : Reading) (read : Re
   pub call_bound : f ≤ 2
   call_bound = (card_proper card n f links card_is).bound
 
-  module _ (plan : List ℕ) (checked : Checked) (check : checkedOf checked ≡ check_plan card plan) (blocks carriages : ℕ) (ok : checked ≡ Checked.Accepted blocks carriages) where
+  module _ (plan : List ℕ) (checked : Checked) (check : checked_of checked ≡ check_plan card plan) (blocks carriages : ℕ) (ok : checked ≡ Checked.Accepted blocks carriages) where
     accepted : check_plan card plan ≡ totals blocks carriages
-    accepted = sym check ∙ ap checkedOf ok
+    accepted = sym check ∙ ap checked_of ok
 
     blocks_are : (blocks ≡ length (due n f)) × (length plan ≤ 1048576) × Runnable n f plan blocks
     blocks_are = accepted_blocks card plan n f links card_is blocks carriages accepted
@@ -59,7 +59,7 @@ module _ (card : List ℕ) (before links : Links) (reading : Reading) (read : Re
 
 module _ (card plan inputs : List ℕ) (X : ℕ) (table lent : List ℕ) where
   -- demand 3 holds of every answer that is the definition's
-  answered : (r : Ran) (after : List ℕ) → ranOf r ≡ run_plan card plan inputs X lent → after ≡ lent_after card plan inputs X table lent
+  answered : (r : Ran) (after : List ℕ) → ran_of r ≡ run_plan card plan inputs X lent → after ≡ lent_after card plan inputs X table lent
       → Answered card plan inputs X table lent r after
   answered r after a b =
       record {
@@ -80,7 +80,7 @@ module _ (card plan inputs : List ℕ) (X : ℕ) (table lent : List ℕ) where
         let run : run_plan card plan inputs X lent ≡ turned (refusal_of g) = rw (refused_of (read_card card) (refusal_of g) (sym read.reading ∙ ap reading_of is)) refl in
         answered (Ran.Refused g) lent (sym run) (kept (refusal_of g) run)
 
-    module _ (n f : ℕ) (is : reading ≡ Reading.Network n f) (checked : Checked) (check : checkedOf checked ≡ check_plan card plan) where
+    module _ (n f : ℕ) (is : reading ≡ Reading.Network n f) (checked : Checked) (check : checked_of checked ≡ check_plan card plan) where
       pub answer_plan : (g : Refusal) → checked ≡ Checked.Refused g → Answered card plan inputs X table lent (Ran.Refused g) lent
       unfolding run_plan run_on
       answer_plan g stop =
@@ -88,12 +88,12 @@ module _ (card plan inputs : List ℕ) (X : ℕ) (table lent : List ℕ) where
           answered (Ran.Refused g) lent (sym run) (kept (refusal_of g) run)
 
       module _ (blocks carriages : ℕ) (ok : checked ≡ Checked.Accepted blocks carriages) where
-        pub answer_call : (r : Ran) (after : List ℕ) → ranOf r ≡ check_call n f inputs X lent (totals blocks carriages)
-            → after ≡ after_answer (ranOf r) (decided n X (run_blocks n X table 0 (decode_blocks n f plan blocks) (record { v = values (held inputs); t = replicate 8 2 })).v ++ drop n lent) lent
+        pub answer_call : (r : Ran) (after : List ℕ) → ran_of r ≡ check_call n f inputs X lent (totals blocks carriages)
+            → after ≡ after_answer (ran_of r) (decided n X (run_blocks n X table 0 (decode_blocks n f plan blocks) (record { v = values (held inputs); t = replicate 8 2 })).v ++ drop n lent) lent
             → Answered card plan inputs X table lent r after
         unfolding run_plan run_on lent_after written decode_plan
         answer_call r after a b =
             let net = card_is card before links reading read n f is in
             let c = accepted card before links reading read n f is plan checked check blocks carriages ok in
-            let run : ranOf r ≡ run_plan card plan inputs X lent = rw (net, c) a in
+            let run : ran_of r ≡ run_plan card plan inputs X lent = rw (net, c) a in
             answered r after run (rw (← run, net, ← many card before links reading read n f is plan checked check blocks carriages ok) b)

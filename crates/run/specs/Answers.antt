@@ -14,12 +14,12 @@ use Rattle.run.specs.declared.call.Ran.{Ran}
 abbrev pub values_of : Code.Values → Steps.Values
 values_of s = record { v = bits_of s.v; t = works_of s.sure s.t }
 
-abbrev pub ranOf : Ran → Totals
-ranOf (Ran.Answered blocks carriages) = totals blocks carriages
-ranOf (Ran.Refused r) = turned (refusal_of r)
+abbrev pub ran_of : Ran → Totals
+ran_of (Ran.Answered blocks carriages) = totals blocks carriages
+ran_of (Ran.Refused r) = turned (refusal_of r)
 
 -- the run's answer r, with the buffer lent and handed back; `agreed` is demand 3
 pub record Answered (card plan inputs : List ℕ) (X : ℕ) (table lent : List ℕ) (r : Ran) (after : List ℕ) : Type 0 where
-  pub answer : ranOf r ≡ run_plan card plan inputs X lent
+  pub answer : ran_of r ≡ run_plan card plan inputs X lent
   pub bytes : after ≡ lent_after card plan inputs X table lent
-  pub agreed : (n f : ℕ) (links : Links) → read_card card ≡ network n f links → (blocks carriages : ℕ) → ranOf r ≡ totals blocks carriages → Agreed n X inputs after
+  pub agreed : (n f : ℕ) (links : Links) → read_card card ≡ network n f links → (blocks carriages : ℕ) → ran_of r ≡ totals blocks carriages → Agreed n X inputs after

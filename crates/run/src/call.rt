@@ -6,7 +6,7 @@ ghost use Rattle.steps.specs.Steps.{held, values, run_blocks};
 ghost use Rattle.steps.specs.Run.{are_bits, check_call, decided, after_answer};
 ghost use Rattle.run.specs.Speaking.{bits_of, works_of};
 ghost use Rattle.carriage.specs.Openings.{Runnable};
-ghost use Rattle.run.specs.Answers.{values_of, ranOf, Answered};
+ghost use Rattle.run.specs.Answers.{values_of, ran_of, Answered};
 
 use crate::values::Values;
 use crate::{block, hearing};
@@ -107,7 +107,7 @@ fn answer(
     lent: &mut [u8],
 ) -> Ran
     requires { (n ≤ 8) × (f ≤ 2) × (length plan.now ≤ 1048576) × Runnable n f plan.now blocks }
-    ensures { (ranOf result ≡ check_call n f inputs.now faulty lent.old (totals blocks carriages)) × (lent.new ≡ after_answer (ranOf result) (decided n faulty (run_blocks n faulty table.now 0 (decode_blocks n f plan.now blocks) (record { v = values (held inputs.now); t = replicate 8 2 })).v ++ drop n lent.old) lent.old) }
+    ensures { (ran_of result ≡ check_call n f inputs.now faulty lent.old (totals blocks carriages)) × (lent.new ≡ after_answer (ran_of result) (decided n faulty (run_blocks n faulty table.now 0 (decode_blocks n f plan.now blocks) (record { v = values (held inputs.now); t = replicate 8 2 })).v ++ drop n lent.old) lent.old) }
 {
     let count = n as usize;
     if inputs.len() != count {

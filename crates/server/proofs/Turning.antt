@@ -27,7 +27,7 @@ use Rattle.network.specs.declared.card.Reading.{Reading}
 use Rattle.network.proofs.Heads.{network_is, refused_of}
 use Rattle.network.proofs.Main.{card_proper}
 use Rattle.plan.specs.Check.{Totals, totals, turned, check_plan}
-use Rattle.plan.specs.Answers.{checkedOf}
+use Rattle.plan.specs.Answers.{checked_of}
 use Rattle.plan.specs.declared.check.Checked.{Checked}
 use Rattle.rules.specs.Blocks.{Block, Carriage}
 use Rattle.carriage.specs.declared.opening.Opening.{Opening}
@@ -43,7 +43,7 @@ use Rattle.own.specs.States.{state_of, moved_on}
 use Rattle.own.specs.Commits.{committed_on}
 use Rattle.own.proofs.Standing.{moved_next}
 use Rattle.server.specs.Places.{Opened}
-use Rattle.server.specs.Answers.{siteIs, value_of, none, Stepping, Starting, Asking}
+use Rattle.server.specs.Answers.{site_is, value_of, none, Stepping, Starting, Asking}
 use Rattle.server.specs.declared.turn.Outcome.{Outcome}
 use Rattle.server.specs.declared.turn.Stepped as CodeStepped
 use Rattle.server.specs.declared.turn.Asked as CodeAsked
@@ -81,7 +81,7 @@ module _ (card plan : List ℕ) (before links : Links) (reading : Reading) (read
   unfolding site_of
   site_card g is = let r = refused_of (read_card card) (refusal_of g) (sym read.reading ∙ ap reading_of is) in rw r refl
 
-  module _ (n f : ℕ) (is : reading ≡ Reading.Network n f) (checked : Checked) (check : checkedOf checked ≡ check_plan card plan) where
+  module _ (n f : ℕ) (is : reading ≡ Reading.Network n f) (checked : Checked) (check : checked_of checked ≡ check_plan card plan) where
     card_is : read_card card ≡ network n f links
     card_is = network_is (read_card card) n f before links (sym read.reading ∙ ap reading_of is) read.links
 
@@ -332,10 +332,10 @@ module _ (n blocks i : ℕ) (code : CodeState.State) (ok : Bool) (is : ok ≡ (l
 
 -- the calls on bytes
 
-module _ (card plan : List ℕ) (checked : CodeSite.Site) (is : siteIs checked ≡ site_of card plan) where
+module _ (card plan : List ℕ) (checked : CodeSite.Site) (is : site_is checked ≡ site_of card plan) where
   module _ (n f blocks : ℕ) (e : checked ≡ CodeSite.Site.Open n f blocks) where
     opens : site n f blocks ≡ site_of card plan
-    opens = sym (ap siteIs e) ∙ is
+    opens = sym (ap site_is e) ∙ is
 
     pub open_site : Opened n f plan blocks
     open_site = site_open card plan n f blocks opens
@@ -356,7 +356,7 @@ module _ (card plan : List ℕ) (checked : CodeSite.Site) (is : siteIs checked �
 
   module _ (g : Refusal) (e : checked ≡ CodeSite.Site.Refused g) where
     shuts : closed (refusal_of g) ≡ site_of card plan
-    shuts = sym (ap siteIs e) ∙ is
+    shuts = sym (ap site_is e) ∙ is
 
     pub closed_start : (i x : ℕ) (code : CodeState.State) → state_of code ≡ none → Stepping none (start_call card plan i x) (record { outcome = Outcome.Refused g; state = code })
     unfolding start_call start_on

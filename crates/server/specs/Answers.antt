@@ -1,6 +1,6 @@
 -- What the code's answers stand for.
 --     value_of s          == what a server sends on each of its carriages in the state s; at the end its bit
---     siteIs r           == card and plan as the code has checked them
+--     site_is r           == card and plan as the code has checked them
 --     Stepping before d r   <-> the code's answer r of start or commit is the definition's answer d; refused, the state is as it was before
 --     Asking before d r ..  <-> the same for ask, with the number of values and the lent bytes after
 use Rattle.std.specs.Prelude.{◌≡◌, List, ℕ, length}
@@ -15,9 +15,9 @@ use Rattle.server.specs.declared.turn.Stepped as CodeStepped
 use Rattle.server.specs.declared.turn.Asked as CodeAsked
 use Rattle.server.specs.declared.turn.Site as CodeSite
 
-abbrev pub siteIs : CodeSite.Site → Site
-siteIs (CodeSite.Site.Open n f blocks) = site n f blocks
-siteIs (CodeSite.Site.Refused r) = closed (refusal_of r)
+abbrev pub site_is : CodeSite.Site → Site
+site_is (CodeSite.Site.Open n f blocks) = site n f blocks
+site_is (CodeSite.Site.Refused r) = closed (refusal_of r)
 
 unfoldable pub value_of : State → ℕ
 value_of s = sent s.kind s.v s.t
@@ -27,24 +27,24 @@ pub data Verdict : Type 0 where
   done : Verdict
   refused : Refused → Verdict
 
-abbrev pub verdictOf : Outcome → Verdict
-verdictOf Outcome.Done = done
-verdictOf (Outcome.Refused r) = refused (refusal_of r)
+abbrev pub verdict_of : Outcome → Verdict
+verdict_of Outcome.Done = done
+verdict_of (Outcome.Refused r) = refused (refusal_of r)
 
-abbrev pub steppedVerdict : Stepped → Verdict
-steppedVerdict (Stepped.at s) = done
-steppedVerdict (Stepped.held r) = refused r
+abbrev pub stepped_verdict : Stepped → Verdict
+stepped_verdict (Stepped.at s) = done
+stepped_verdict (Stepped.held r) = refused r
 
-abbrev pub askedVerdict : Asked → Verdict
-askedVerdict (Asked.sends s values) = done
-askedVerdict (Asked.held r) = refused r
+abbrev pub asked_verdict : Asked → Verdict
+asked_verdict (Asked.sends s values) = done
+asked_verdict (Asked.held r) = refused r
 
 pub record Stepping (before : State) (d : Stepped) (r : CodeStepped.Stepped) : Type 0 where
-  pub verdict : verdictOf r.outcome ≡ steppedVerdict d
+  pub verdict : verdict_of r.outcome ≡ stepped_verdict d
   pub state : state_of r.state ≡ state_after before d
 
 pub record Asking (before : State) (d : Asked) (r : CodeAsked.Asked) (lent after : List ℕ) : Type 0 where
-  pub verdict : verdictOf r.outcome ≡ askedVerdict d
+  pub verdict : verdict_of r.outcome ≡ asked_verdict d
   pub state : state_of r.state ≡ state_asked before d
   pub values : r.values ≡ length (values_in d)
   pub bytes : after ≡ lent_after_ask d lent

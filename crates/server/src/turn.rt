@@ -5,7 +5,7 @@ ghost use Rattle.part.specs.State.{next};
 ghost use Rattle.part.specs.Calls.{site, site_of, block_of, values_due, start_call, ask_on, ask_call, commit_on, commit_call};
 ghost use Rattle.own.specs.States.{state_of};
 ghost use Rattle.server.specs.Places.{Opened, Here};
-ghost use Rattle.server.specs.Answers.{siteIs, value_of, none, Stepping, Starting, Asking};
+ghost use Rattle.server.specs.Answers.{site_is, value_of, none, Stepping, Starting, Asking};
 
 use crate::counts;
 use carriage::opening;
@@ -49,7 +49,7 @@ pub enum Site {
 }
 
 fn checked_site(card: &[u8], plan: &[u8]) -> Site
-    ensures { siteIs result ≡ site_of card.now plan.now }
+    ensures { site_is result ≡ site_of card.now plan.now }
 {
     let mut links = [[false; 8]; 8];
     let reading = card::read_card(card, &mut links);

@@ -9,7 +9,7 @@ ghost use Rattle.network.specs.Proper.{Proper};
 ghost use Rattle.split.specs.Split.{first_bad, split_test};
 ghost use Rattle.split.specs.Weak.{outside};
 ghost use Rattle.split.specs.Sources.{Tables};
-ghost use Rattle.split.specs.Answers.{splitAnswerOf};
+ghost use Rattle.split.specs.Answers.{split_answer_of};
 
 use network::card;
 use network::card::Reading;
@@ -47,7 +47,7 @@ pub fn is_weak(
 // R over those that keep clear of F and L; the scan over R is entered only for a weak L.
 fn first_bad(n: u8, f: u8, links: [[bool; 8]; 8]) -> SplitAnswer
     requires { Proper n f links }
-    ensures { splitAnswerOf result ≡ first_bad n f links }
+    ensures { split_answer_of result ≡ first_bad n f links }
 {
     let rows = sources::source_rows(links);
     let lower = sources::lower_table(rows);
@@ -92,7 +92,7 @@ fn first_bad(n: u8, f: u8, links: [[bool; 8]; 8]) -> SplitAnswer
 
 // The first bad split of the card's network, none if it has none, or the card's refusal.
 pub fn split_test(card: &[u8]) -> SplitAnswer
-    ensures { splitAnswerOf result ≡ split_test card.now }
+    ensures { split_answer_of result ≡ split_test card.now }
 {
     let mut links = [[false; 8]; 8];
     let reading = card::read_card(card, &mut links);

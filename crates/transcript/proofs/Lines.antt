@@ -25,7 +25,7 @@ use Rattle.network.specs.Card as Card
 use Rattle.network.proofs.Heads.{network_of, refused_of}
 use Rattle.network.proofs.Main.{card_proper}
 use Rattle.steps.specs.Run.{run_plan, lent_after}
-use Rattle.run.specs.Answers.{Answered, ranOf}
+use Rattle.run.specs.Answers.{Answered, ran_of}
 use Rattle.run.specs.declared.call.Ran.{Ran}
 use Rattle.transcript.specs.Text.{too_long, blocks_word, carriages_word, server_word, decided_word, faulty_word, refused_word, card_word, plan_word, call_word, gap, newline, decimal, totals_line, decided_line, decided_lines, refused_line, faulty_of, inputs_of, table_of, answer_lines, files_lines, is_long, transcript, Put}
 use Rattle.transcript.proofs.Laying.{put_none, put_join, put_most}
@@ -105,7 +105,7 @@ run_lines card_bytes plan_bytes runIn n lent =
     answer_lines n X (run_plan card_bytes plan_bytes inputs X lent) (lent_after card_bytes plan_bytes inputs X (table_of n runIn) lent)
 
 module _ (card_bytes plan_bytes runIn : List ℕ) (n : ℕ) {X : ℕ} {inputs table lent after : List ℕ} {r : Ran} (e : X ≡ faulty_of runIn) (f : inputs ≡ inputs_of n runIn) (g : table ≡ table_of n runIn) (a : Answered card_bytes plan_bytes inputs X table lent r after) where
-  answered : run_plan card_bytes plan_bytes (inputs_of n runIn) (faulty_of runIn) lent ≡ ranOf r
+  answered : run_plan card_bytes plan_bytes (inputs_of n runIn) (faulty_of runIn) lent ≡ ran_of r
   answered = rw (← e, ← f) (sym a.answer)
 
   stored : lent_after card_bytes plan_bytes (inputs_of n runIn) (faulty_of runIn) (table_of n runIn) lent ≡ after

@@ -11,7 +11,7 @@ ghost use Rattle.split.specs.Sources.{SourceRows, Tables};
 ghost use Rattle.two_way.specs.Separation.{one_way, connectivity};
 ghost use Rattle.two_way.specs.Scan.{unlike, every_linked, cut_off};
 ghost use Rattle.two_way.specs.Quick.{older_rule, quick_of, quick_test};
-ghost use Rattle.two_way.specs.Answers.{quickAnswerOf};
+ghost use Rattle.two_way.specs.Answers.{quick_answer_of};
 
 use network::card::Reading;
 use network::{card, links};
@@ -122,7 +122,7 @@ fn older_rule(n: u8, f: u8, least: u8) -> bool
 // The rule's answer for a network, or refusal 15.
 fn by_rule(n: u8, f: u8, links: [[bool; 8]; 8]) -> QuickAnswer
     requires { Proper n f links }
-    ensures { quickAnswerOf result ≡ quick_of (network n f links) }
+    ensures { quick_answer_of result ≡ quick_of (network n f links) }
 {
     let rows = links::rows(links);
     let sources = sources::source_rows(links);
@@ -136,7 +136,7 @@ fn by_rule(n: u8, f: u8, links: [[bool; 8]; 8]) -> QuickAnswer
 
 // The quick test: the older rule's answer for the card's network, the card's refusal, or 15.
 pub fn quick_test(card: &[u8]) -> QuickAnswer
-    ensures { quickAnswerOf result ≡ quick_test card.now }
+    ensures { quick_answer_of result ≡ quick_test card.now }
 {
     let mut links = [[false; 8]; 8];
     let reading = card::read_card(card, &mut links);

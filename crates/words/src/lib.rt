@@ -7,17 +7,17 @@ ghost use Rattle.refusal.specs.Refused.{refusal_of};
 ghost use Rattle.network.specs.Card.{network, refused};
 ghost use Rattle.network.specs.Links.{linked_in};
 ghost use Rattle.network.specs.Rows.{rows_of};
-ghost use Rattle.printer.specs.Answers.{printedOf};
-ghost use Rattle.split.specs.Answers.{splitAnswerOf};
-ghost use Rattle.two_way.specs.Answers.{quickAnswerOf};
+ghost use Rattle.printer.specs.Answers.{printed_of};
+ghost use Rattle.split.specs.Answers.{split_answer_of};
+ghost use Rattle.two_way.specs.Answers.{quick_answer_of};
 ghost use Rattle.plan.specs.Check.{totals};
-ghost use Rattle.plan.specs.Answers.{checkedOf};
+ghost use Rattle.plan.specs.Answers.{checked_of};
 ghost use Rattle.writer.specs.Answers.{written_of};
-ghost use Rattle.routes.specs.Answers.{routingOf};
-ghost use Rattle.load.specs.Answers.{loadedOf};
-ghost use Rattle.run.specs.Answers.{ranOf};
+ghost use Rattle.routes.specs.Answers.{routing_of};
+ghost use Rattle.load.specs.Answers.{loaded_of};
+ghost use Rattle.run.specs.Answers.{ran_of};
 ghost use Rattle.own.specs.States.{state_of};
-ghost use Rattle.server.specs.Answers.{verdictOf};
+ghost use Rattle.server.specs.Answers.{verdict_of};
 ghost use Rattle.words.specs.Words.{refused_words, card_words, print_words, write_words, route_words, split_words, quick_words, plan_words, load_words, state_from, state_words};
 
 use load::Loaded;
@@ -81,7 +81,7 @@ pub fn unread_words(r: Refusal) -> [u64; 12]
 
 // The printer's answer: 0, the number of bytes, 0, 0; or the refusal.
 pub fn printed_words(printed: Printed) -> [u64; 4]
-    ensures { result ≡ print_words (printedOf printed) }
+    ensures { result ≡ print_words (printed_of printed) }
 {
     match printed {
         Printed::Written { bytes } => [0, bytes as u64, 0, 0],
@@ -107,7 +107,7 @@ pub fn written_words(written: Written) -> [u64; 8]
 // The answer to a call for separate routes: 0, 1, how many routes, 0; or 0, 0, the servers that every
 // route meets, how many they are; or the refusal.
 pub fn routed_words(routed: Routed) -> [u64; 4]
-    ensures { result ≡ route_words (routingOf routed) }
+    ensures { result ≡ route_words (routing_of routed) }
 {
     match routed {
         Routed::Routes { count } => [0, 1, count as u64, 0],
@@ -121,7 +121,7 @@ pub fn routed_words(routed: Routed) -> [u64; 4]
 
 // The split test's answer: five zeros; or 1, F, L, C, R, the first bad split; or the refusal and 0.
 pub fn split_words(tested: SplitAnswer) -> [u64; 5]
-    ensures { result ≡ split_words (splitAnswerOf tested) }
+    ensures { result ≡ split_words (split_answer_of tested) }
 {
     match tested {
         SplitAnswer::Good => [0, 0, 0, 0, 0],
@@ -136,7 +136,7 @@ pub fn split_words(tested: SplitAnswer) -> [u64; 5]
 // The quick test's answer: 0, 1 if the older rule holds and 0 if not, n, the least number of servers to
 // be taken away; or the refusal.
 pub fn quick_words(tested: QuickAnswer) -> [u64; 4]
-    ensures { result ≡ quick_words (quickAnswerOf tested) }
+    ensures { result ≡ quick_words (quick_answer_of tested) }
 {
     match tested {
         QuickAnswer::Rule { holds, n, least } => [0, holds as u64, n as u64, least as u64],
@@ -153,7 +153,7 @@ fn total_words(blocks: usize, carriages: usize) -> [u64; 4]
 
 // The plan check's answer: the totals, or the refusal.
 pub fn checked_words(checked: Checked) -> [u64; 4]
-    ensures { result ≡ plan_words (checkedOf checked) }
+    ensures { result ≡ plan_words (checked_of checked) }
 {
     match checked {
         Checked::Accepted { blocks, carriages } => total_words(blocks, carriages),
@@ -163,7 +163,7 @@ pub fn checked_words(checked: Checked) -> [u64; 4]
 
 // The run's answer: the totals, or the refusal.
 pub fn ran_words(ran: Ran) -> [u64; 4]
-    ensures { result ≡ plan_words (ranOf ran) }
+    ensures { result ≡ plan_words (ran_of ran) }
 {
     match ran {
         Ran::Answered { blocks, carriages } => total_words(blocks, carriages),
@@ -190,7 +190,7 @@ fn load_words(counts: [usize; 8]) -> [u64; 9]
 
 // The load's answer with the counts after it: 0 and the eight counts; or the refusal and five zeros.
 pub fn loaded_words(loaded: Loaded, counts: [usize; 8]) -> [u64; 9]
-    ensures { result ≡ load_words (loadedOf loaded counts) }
+    ensures { result ≡ load_words (loaded_of loaded counts) }
 {
     match loaded {
         Loaded::Counted => load_words(counts),
@@ -216,7 +216,7 @@ pub fn state_from(words: &[u64; 5]) -> State
 
 // The answer of start or commit: 0 and the five words of the state; or the refusal, 0, 0.
 pub fn state_words(outcome: Outcome, state: State) -> [u64; 6]
-    ensures { result ≡ state_words (verdictOf outcome) (state_of state) }
+    ensures { result ≡ state_words (verdict_of outcome) (state_of state) }
 {
     match outcome {
         Outcome::Done => [0, state.block, state.kind, state.v, state.t, state.asked],
@@ -229,7 +229,7 @@ pub fn state_words(outcome: Outcome, state: State) -> [u64; 6]
 
 // The answer of ask: those six words and the number of values.
 pub fn asked_words(outcome: Outcome, state: State, values: usize) -> [u64; 7]
-    ensures { result ≡ state_words (verdictOf outcome) (state_of state) ++ values ∷ [] }
+    ensures { result ≡ state_words (verdict_of outcome) (state_of state) ++ values ∷ [] }
 {
     let words = state_words(outcome, state);
     [

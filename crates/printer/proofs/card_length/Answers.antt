@@ -1,9 +1,6 @@
-use mathlib.Core.Logic.{⊎_elim}
-use Prim.Native.Nat.{◌-◌}
 use native.Mathlib.Omega.{arith}
-use borrow.Author.Rules.{rules}
 use Rattle.network.specs.Links.{linked_in}
-use Rattle.printer.proofs.Pairs.{Counting, counting_starts, counting_goes, counting_skips, counting_done}
+use Rattle.printer.proofs.Pairs.{counting_starts, counting_goes, counting_skips, counting_done}
 use Rattle.printer.proofs.card_length.Goals as goal
 use Rattle.printer.proofs.card_length.Goals.{else-links-u, then-links-u}
 

@@ -1,6 +1,5 @@
 -- `printer::print_card` meets its contract: the card reader gives the refusal, or the network whose clean card is printed. Assumes nothing.
 use mathlib.Core.Path.{sym, ap, ◌∙◌}
-use borrow.Author.Rules.{rules}
 use Rattle.network.specs.Answers.{reading_of}
 use Rattle.printer.proofs.CleanCard.{printed_refused, printed_network}
 use Rattle.printer.proofs.print_card.Goals as goal

@@ -1,9 +1,7 @@
 -- `printer::print_network` meets its contract: what is laid into the buffer is the clean card (`CleanCard`). Assumes nothing.
-use mathlib.Core.Path.{◌≡◌, refl}
+use mathlib.Core.Path.{refl}
 use native.Mathlib.Omega.{arith}
-use lib.ListN.{length, length-set}
-use borrow.Author.Rules.{rules}
-use Rattle.printer.proofs.CleanCard.{clean_refused, clean_fits, laid_long, clean_written}
+use Rattle.printer.proofs.CleanCard.{clean_refused, clean_fits, clean_written}
 use Rattle.printer.proofs.print_network.Goals as goal
 
 pub returns-then-room-bytes : goal.returns-then-room-bytes

@@ -1,10 +1,8 @@
-use mathlib.Core.Logic.{⊎_elim}
-use Prim.Native.Nat.{◌+◌, ◌-◌, ◌≤◌}
+use Prim.Native.Nat.{◌+◌, ◌≤◌}
 use native.Mathlib.Omega.{arith}
 use lib.ListN.{length, length-set}
-use borrow.Author.Rules.{rules}
 use Rattle.network.specs.Links.{linked_in}
-use Rattle.printer.proofs.Pairs.{Laying, laying_starts, laying_room, laying_goes, laying_skips, laying_done}
+use Rattle.printer.proofs.Pairs.{laying_starts, laying_room, laying_goes, laying_skips, laying_done}
 use Rattle.printer.proofs.write_links.Goals as goal
 use Rattle.printer.proofs.write_links.Goals.{else-links-u, then-links-u}
 

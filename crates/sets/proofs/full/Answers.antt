@@ -2,7 +2,6 @@
 use native.Mathlib.Omega.{arith}
 use lib.Pow.{pow_pos}
 use Rattle.sets.proofs.Members.{one_shifted, full_is, full_past}
-use borrow.Author.Rules.{rules}
 use Rattle.sets.proofs.full.Goals as goal
 
 pub overflow_sub-result : goal.overflow_sub-result

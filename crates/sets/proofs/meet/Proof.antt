@@ -3,8 +3,6 @@ use mathlib.Core.Path.{refl}
 use Rattle.sets.specs.Sets.{meet}
 use Rattle.sets.proofs.meet.Statement.{statement}
 use Rattle.sets.proofs.meet.Tie as tie
-use Rattle.sets.proofs.meet.Reads as reads
-use Rattle.sets.proofs.meet.Lts as lts
 
 returns : tie.Need-returns
 unfolding meet

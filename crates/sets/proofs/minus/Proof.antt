@@ -3,8 +3,6 @@ use mathlib.Core.Path.{refl}
 use Rattle.sets.specs.Sets.{minus}
 use Rattle.sets.proofs.minus.Statement.{statement}
 use Rattle.sets.proofs.minus.Tie as tie
-use Rattle.sets.proofs.minus.Reads as reads
-use Rattle.sets.proofs.minus.Lts as lts
 
 returns : tie.Need-returns
 unfolding minus

@@ -1,6 +1,5 @@
 -- `sets::single` meets its contract. A one that is shifted within a byte is the power of two. Assumes nothing.
 use Rattle.sets.proofs.Members.{single_is, single_past}
-use borrow.Author.Rules.{rules}
 use Rattle.sets.proofs.single.Goals as goal
 
 pub returns-then-i-lt8 : goal.returns-then-i-lt8

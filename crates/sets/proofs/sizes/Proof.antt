@@ -3,8 +3,6 @@ use mathlib.Core.Path.{refl}
 use Rattle.sets.proofs.Tables.{sizes_are}
 use Rattle.sets.proofs.sizes.Statement.{statement}
 use Rattle.sets.proofs.sizes.Tie as tie
-use Rattle.sets.proofs.sizes.Reads as reads
-use Rattle.sets.proofs.sizes.Lts as lts
 
 returns : tie.Need-returns
 returns c = record { long = refl; entry = sizes_are }

@@ -3,8 +3,6 @@ use mathlib.Core.Path.{refl}
 use Rattle.sets.specs.Sets.{union}
 use Rattle.sets.proofs.union.Statement.{statement}
 use Rattle.sets.proofs.union.Tie as tie
-use Rattle.sets.proofs.union.Reads as reads
-use Rattle.sets.proofs.union.Lts as lts
 
 returns : tie.Need-returns
 unfolding union

@@ -3,8 +3,6 @@ use mathlib.Core.Path.{refl}
 use Rattle.sets.specs.Sets.{within}
 use Rattle.sets.proofs.within.Statement.{statement}
 use Rattle.sets.proofs.within.Tie as tie
-use Rattle.sets.proofs.within.Reads as reads
-use Rattle.sets.proofs.within.Lts as lts
 
 returns : tie.Need-returns
 unfolding within

@@ -3,7 +3,7 @@ use mathlib.Core.Logic.{⊎_elim}
 use Prim.Native.Nat.{◌-◌}
 use borrow.Author.Rules.{rules}
 use Rattle.split.specs.declared.SplitAnswer.{SplitAnswer}
-use Rattle.split.specs.Answers.{splitAnswerOf}
+use Rattle.split.specs.Answers.{split_answer_of}
 use Rattle.split.specs.Sources.{Tables}
 use Rattle.split.proofs.SourceRows.{halves_of}
 use Rattle.split.proofs.Scans.{Scan, Sides, Splits, limit_of, scan_starts, scan_ends, scan_past, sides_start, sides_end, sides_past, splits_start, splits_end, splits_past, splits_hit, sides_fall, splits_fall}
@@ -40,7 +40,7 @@ pub returns-after-scan : goal.returns-after-scan
 returns-after-scan c =
     let tables : (let a = c.args in
     Tables a.n a.links c.sizes-sizes.result c.lower_table-lower.result c.upper_table-upper.result) = record { sized = search rules; halves = search halves_of } in
-    ap splitAnswerOf c.scan.invariant.0 ∙ search (scan_ends, tables)
+    ap split_answer_of c.scan.invariant.0 ∙ search (scan_ends, tables)
 
 -- L and R are weak
 pub returns-then-is_weak-2 : goal.returns-then-is_weak-2

@@ -2,7 +2,7 @@
 use mathlib.Core.Path.{sym, ap, ◌∙◌}
 use borrow.Author.Rules.{rules}
 use Rattle.load.specs.declared.Loaded.{Loaded}
-use Rattle.load.specs.Answers.{loadedOf}
+use Rattle.load.specs.Answers.{loaded_of}
 use Rattle.words.specs.Words.{load_words}
 use Rattle.words.proofs.Rows.{counts_laid, front_laid}
 use Rattle.words.proofs.loaded_words.Statement.{statement}
@@ -57,10 +57,10 @@ array-read-t51 : tie.Need-array-read-t51
 array-read-t51 c = search rules
 
 returns : tie.Need-returns
-returns c = let counts = c.before.before.args.t2 in counts_laid counts (search rules) ∙ ap (λ (l : Loaded). load_words (loadedOf l counts)) (sym c.enum_told.given.1)
+returns c = let counts = c.before.before.args.t2 in counts_laid counts (search rules) ∙ ap (λ (l : Loaded). load_words (loaded_of l counts)) (sym c.enum_told.given.1)
 
 returns-2 : tie.Need-returns-2
-returns-2 c = front_laid _ _ c.refused-words.ensures _ ∙ ap (λ (l : Loaded). load_words (loadedOf l c.before.before.before.before.args.t2)) (sym c.before.before.loaded.given.1)
+returns-2 c = front_laid _ _ c.refused-words.ensures _ ∙ ap (λ (l : Loaded). load_words (loaded_of l c.before.before.before.before.args.t2)) (sym c.before.before.loaded.given.1)
 
 pub loaded_words_spec : {M : Type 1} → statement M
 loaded_words_spec =

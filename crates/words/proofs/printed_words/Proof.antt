@@ -1,7 +1,7 @@
 -- `words::printed_words` meets its contract. The words are those of the case at hand. Assumes nothing.
 use mathlib.Core.Path.{sym, ap, ◌∙◌}
 use borrow.Author.Rules.{rules}
-use Rattle.printer.specs.Answers.{printedOf}
+use Rattle.printer.specs.Answers.{printed_of}
 use Rattle.words.specs.Words.{print_words}
 use Rattle.words.proofs.printed_words.Statement.{statement}
 use Rattle.words.proofs.printed_words.Tie as tie
@@ -19,10 +19,10 @@ refused-words-requires : tie.Need-refused-words-requires
 refused-words-requires c κs = search rules
 
 returns : tie.Need-returns
-returns c = ap print_words (ap printedOf (sym c.before.printed.given.1))
+returns c = ap print_words (ap printed_of (sym c.before.printed.given.1))
 
 returns-2 : tie.Need-returns-2
-returns-2 c = c.refused-words.ensures ∙ ap print_words (ap printedOf (sym c.before.before.printed2.given.1))
+returns-2 c = c.refused-words.ensures ∙ ap print_words (ap printed_of (sym c.before.before.printed2.given.1))
 
 pub printed_words_spec : {M : Type 1} → statement M
 printed_words_spec =

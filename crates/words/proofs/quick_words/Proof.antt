@@ -1,7 +1,7 @@
 -- `words::quick_words` meets its contract. The words are those of the case at hand; yes is 1 and no is 0. Assumes nothing.
 use mathlib.Core.Path.{sym, ap, ◌∙◌}
 use borrow.Author.Rules.{rules}
-use Rattle.two_way.specs.Answers.{quickAnswerOf}
+use Rattle.two_way.specs.Answers.{quick_answer_of}
 use Rattle.words.specs.Words.{quick_words}
 use Rattle.words.proofs.Rows.{yes_laid}
 use Rattle.words.proofs.quick_words.Statement.{statement}
@@ -29,10 +29,10 @@ refused-words-requires : tie.Need-refused-words-requires
 refused-words-requires c κs = search rules
 
 returns : tie.Need-returns
-returns c = let fields = c.before.tested.given.0 in yes_laid fields.0 fields.1.0 fields.1.1.0 ∙ ap quick_words (ap quickAnswerOf (sym c.before.tested.given.1))
+returns c = let fields = c.before.tested.given.0 in yes_laid fields.0 fields.1.0 fields.1.1.0 ∙ ap quick_words (ap quick_answer_of (sym c.before.tested.given.1))
 
 returns-2 : tie.Need-returns-2
-returns-2 c = c.refused-words.ensures ∙ ap quick_words (ap quickAnswerOf (sym c.before.before.tested2.given.1))
+returns-2 c = c.refused-words.ensures ∙ ap quick_words (ap quick_answer_of (sym c.before.before.tested2.given.1))
 
 pub quick_words_spec : {M : Type 1} → statement M
 quick_words_spec =

@@ -1,7 +1,7 @@
 -- `words::ran_words` meets its contract. The words are those of the case at hand. Assumes nothing.
 use mathlib.Core.Path.{sym, ap, ◌∙◌}
 use borrow.Author.Rules.{rules}
-use Rattle.run.specs.Answers.{ranOf}
+use Rattle.run.specs.Answers.{ran_of}
 use Rattle.words.specs.Words.{plan_words}
 use Rattle.words.proofs.ran_words.Statement.{statement}
 use Rattle.words.proofs.ran_words.Tie as tie
@@ -23,10 +23,10 @@ refused-words-requires : tie.Need-refused-words-requires
 refused-words-requires c κs = search rules
 
 returns : tie.Need-returns
-returns c = c.total-words.ensures ∙ ap plan_words (ap ranOf (sym c.before.before.ran.given.1))
+returns c = c.total-words.ensures ∙ ap plan_words (ap ran_of (sym c.before.before.ran.given.1))
 
 returns-2 : tie.Need-returns-2
-returns-2 c = c.refused-words.ensures ∙ ap plan_words (ap ranOf (sym c.before.before.ran2.given.1))
+returns-2 c = c.refused-words.ensures ∙ ap plan_words (ap ran_of (sym c.before.before.ran2.given.1))
 
 pub ran_words_spec : {M : Type 1} → statement M
 ran_words_spec =

@@ -1,7 +1,7 @@
 -- `words::routed_words` meets its contract. The words are those of the case at hand; a cut is counted by `sets::size`. Assumes nothing.
 use mathlib.Core.Path.{sym, ap, ◌∙◌}
 use borrow.Author.Rules.{rules}
-use Rattle.routes.specs.Answers.{routingOf}
+use Rattle.routes.specs.Answers.{routing_of}
 use Rattle.words.specs.Words.{route_words}
 use Rattle.words.proofs.Rows.{cut_laid}
 use Rattle.words.proofs.routed_words.Statement.{statement}
@@ -33,13 +33,13 @@ refused-words-requires : tie.Need-refused-words-requires
 refused-words-requires c κs = search rules
 
 returns : tie.Need-returns
-returns c = ap route_words (ap routingOf (sym c.before.routed.given.1))
+returns c = ap route_words (ap routing_of (sym c.before.routed.given.1))
 
 returns-2 : tie.Need-returns-2
-returns-2 c = cut_laid _ _ c.size.ensures ∙ ap route_words (ap routingOf (sym c.before.before.routed2.given.1))
+returns-2 c = cut_laid _ _ c.size.ensures ∙ ap route_words (ap routing_of (sym c.before.before.routed2.given.1))
 
 returns-3 : tie.Need-returns-3
-returns-3 c = c.refused-words.ensures ∙ ap route_words (ap routingOf (sym c.before.before.routed3.given.1))
+returns-3 c = c.refused-words.ensures ∙ ap route_words (ap routing_of (sym c.before.before.routed3.given.1))
 
 pub routed_words_spec : {M : Type 1} → statement M
 routed_words_spec =

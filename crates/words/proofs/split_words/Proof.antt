@@ -1,7 +1,7 @@
 -- `words::split_words` meets its contract. The words are those of the case at hand; a refusal has its four words in front. Assumes nothing.
 use mathlib.Core.Path.{sym, ap, ◌∙◌}
 use borrow.Author.Rules.{rules}
-use Rattle.split.specs.Answers.{splitAnswerOf}
+use Rattle.split.specs.Answers.{split_answer_of}
 use Rattle.words.specs.Words.{split_words}
 use Rattle.words.proofs.Rows.{front_laid}
 use Rattle.words.proofs.split_words.Statement.{statement}
@@ -50,10 +50,10 @@ returns : tie.Need-returns
 returns c = search rules
 
 returns-2 : tie.Need-returns-2
-returns-2 c = ap split_words (ap splitAnswerOf (sym c.before.tested.given.1))
+returns-2 c = ap split_words (ap split_answer_of (sym c.before.tested.given.1))
 
 returns-3 : tie.Need-returns-3
-returns-3 c = front_laid _ _ c.refused-words.ensures _ ∙ ap split_words (ap splitAnswerOf (sym c.before.before.tested2.given.1))
+returns-3 c = front_laid _ _ c.refused-words.ensures _ ∙ ap split_words (ap split_answer_of (sym c.before.before.tested2.given.1))
 
 pub split_words_spec : {M : Type 1} → statement M
 split_words_spec =

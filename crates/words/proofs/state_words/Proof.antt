@@ -3,7 +3,7 @@ use mathlib.Core.Path.{sym, ap, ◌∙◌}
 use borrow.Author.Rules.{rules}
 use Rattle.server.specs.declared.turn.Outcome.{Outcome}
 use Rattle.own.specs.States.{state_of}
-use Rattle.server.specs.Answers.{verdictOf}
+use Rattle.server.specs.Answers.{verdict_of}
 use Rattle.words.specs.Words.{state_words}
 use Rattle.words.proofs.Rows.{front_laid}
 use Rattle.words.proofs.state_words.Statement.{statement}
@@ -34,10 +34,10 @@ array-read-t18 : tie.Need-array-read-t18
 array-read-t18 c = search rules
 
 returns : tie.Need-returns
-returns c = ap (λ (o : Outcome). state_words (verdictOf o) (state_of c.before.before.args.state)) (sym c.enum_told.given.1)
+returns c = ap (λ (o : Outcome). state_words (verdict_of o) (state_of c.before.before.args.state)) (sym c.enum_told.given.1)
 
 returns-2 : tie.Need-returns-2
-returns-2 c = front_laid _ _ c.refused-words.ensures _ ∙ ap (λ (o : Outcome). state_words (verdictOf o) (state_of c.before.before.before.before.args.state)) (sym c.before.before.outcome.given.1)
+returns-2 c = front_laid _ _ c.refused-words.ensures _ ∙ ap (λ (o : Outcome). state_words (verdict_of o) (state_of c.before.before.before.before.args.state)) (sym c.before.before.outcome.given.1)
 
 pub state_words_spec : {M : Type 1} → statement M
 state_words_spec =

@@ -1,9 +1,7 @@
 -- `network::card::read_card` meets its contract. The head gives the refusal, or the place from which the links are read (`opening-fails`,
 -- `opening-fits`). Assumes nothing.
 use mathlib.Core.Path.{refl}
-use Prim.Native.Nat.{◌-◌}
 use native.Mathlib.Omega.{arith}
-use borrow.Author.Rules.{rules}
 use Rattle.network.proofs.Reading.{answered_refused, reading_long, opening_fails, opening_fits}
 use Rattle.network.proofs.card.read_card.Goals as goal
 

@@ -1,6 +1,5 @@
 -- `network::card::read_end` meets its contract. Each answer is the step at `at`, by what stands there: one lemma of `Reading`, whose premises
 -- `search` finds, with what `refused` hands back put for its result. Assumes nothing.
-use borrow.Author.Rules.{rules}
 use Rattle.network.proofs.Reading.{step_none, step_rest, end_trailing, end_read, head_cut, head_again}
 use Rattle.network.proofs.card.read_end.Goals as goal
 

@@ -1,8 +1,6 @@
 -- `network::card::read_head` meets its contract. Each answer is the step at place 0, by what stands there (`Reading`). Assumes nothing.
 use mathlib.Core.Path.{refl, sym, ◌∙◌}
-use Prim.Native.Nat.{◌-◌}
 use native.Mathlib.Omega.{arith}
-use borrow.Author.Rules.{rules}
 use Rattle.network.proofs.Reading.{step_none, step_unknown, end_first, head_cut, head_goes, head_range, link_cut, link_first}
 use Rattle.network.proofs.card.read_head.Goals as goal
 

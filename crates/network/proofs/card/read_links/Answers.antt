@@ -1,10 +1,7 @@
-use mathlib.Core.Path.{refl, sym, ◌∙◌}
-use Prim.Native.Nat.{◌-◌}
+use mathlib.Core.Path.{refl}
 use native.Mathlib.Omega.{arith}
-use borrow.Author.Rules.{rules}
-use lib.ListN.{length}
 use Rattle.network.specs.Links.{no_links}
-use Rattle.network.proofs.Reading.{Turn, Linking, Fitting, turn_links, linking_fits, linking_range, fitting_goes, turn_refused, turn_read, answered_refused, answered_network}
+use Rattle.network.proofs.Reading.{Linking, Fitting, turn_links, linking_fits, linking_range, fitting_goes, turn_refused, turn_read, answered_refused, answered_network}
 use Rattle.network.proofs.card.read_links.Goals as goal
 
 pub loop-u-init : goal.loop-u-init

@@ -1,12 +1,8 @@
 -- `network::card::read_links` meets its contract. The invariant of its loop, `Turn`: what is left to read from `at` on gives the answer of the whole
 -- card. The measure is what is left of the card. What a turn finds is said by `linking` and `fitting`. Assumes nothing.
-use mathlib.Core.Path.{refl, sym, ◌∙◌}
 use Prim.Native.Nat.{◌-◌}
-use native.Mathlib.Omega.{arith}
-use borrow.Author.Rules.{rules}
 use lib.ListN.{length}
-use Rattle.network.specs.Links.{no_links}
-use Rattle.network.proofs.Reading.{Turn, Linking, Fitting, turn_links, linking_fits, linking_range, fitting_goes, turn_refused, turn_read, answered_refused, answered_network}
+use Rattle.network.proofs.Reading.{Turn}
 use Rattle.network.proofs.card.read_links.Given as goal
 
 abbrev pub invariant-loop-u : goal.invariant-loop-u

@@ -1,6 +1,4 @@
 -- `network::card::whole_link` meets its contract. Each test turns one part of the definition. Assumes nothing.
-use Prim.Native.Nat.{◌-◌}
-use borrow.Author.Rules.{rules}
 use Rattle.network.proofs.Reading.{whole_short, whole_long}
 use Rattle.network.proofs.card.whole_link.Goals as goal
 

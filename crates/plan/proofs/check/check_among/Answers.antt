@@ -9,7 +9,7 @@ use Rattle.network.specs.Rows.{links_of}
 use Rattle.plan.specs.Members.{members}
 use Rattle.plan.specs.Due.{fan, pairs}
 use Rattle.plan.specs.Check.{Progress, and_then, check_groups, check_reports}
-use Rattle.plan.specs.Answers.{progressOf}
+use Rattle.plan.specs.Answers.{progress_of}
 use Rattle.plan.proofs.Parts.{halts_then, moves_then, sound_is}
 use Rattle.plan.proofs.Bounds.{pairs_bound, code_bound}
 use Rattle.plan.proofs.check.check_among.Goals as goal
@@ -18,7 +18,7 @@ pub check_outward-requires : goal.check_outward-requires
 check_outward-requires c =
     let sound : (let a = c.args in c.minus-sound.result ≡ minus (full a.n) a.fault) = let s = c in sound_is s.args.n s.args.fault _ _ s.requires.0 c.full.ensures c.minus-sound.ensures in
     let among : (let a = c.args in
-    progressOf c.check_pairs-among.result ≡ check_groups (minus (full a.n) a.fault) (links_of a.rows.now) a.block.now (pairs (members a.quorum) (members a.quorum)) a.start a.before) = let a = c.args in
+    progress_of c.check_pairs-among.result ≡ check_groups (minus (full a.n) a.fault) (links_of a.rows.now) a.block.now (pairs (members a.quorum) (members a.quorum)) a.start a.before) = let a = c.args in
     c.check_pairs-among.ensures ∙ ap (λ (W : ℕ). check_groups W (links_of a.rows.now) a.block.now (pairs (members a.quorum) (members a.quorum)) a.start a.before) sound in
     let b = c in
     let s = b in

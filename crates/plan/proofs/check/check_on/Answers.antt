@@ -8,7 +8,7 @@ use Rattle.network.specs.Rows.{links_of}
 use Rattle.network.proofs.LinkRows.{links_back}
 use Rattle.plan.specs.Due.{due}
 use Rattle.plan.specs.Check.{check_blocks}
-use Rattle.plan.specs.Answers.{progressOf}
+use Rattle.plan.specs.Answers.{progress_of}
 use Rattle.plan.proofs.Plans.{on_long, on_halts, on_stops, on_ends}
 use borrow.Kind.Array.{e_bool}
 use Rattle.plan.proofs.check.check_on.Goals as goal
@@ -22,7 +22,7 @@ returns-in-Stopped c =
     let g = s.well_formed.1.1.0 in
     ap links_of c.rows-rows.ensures ∙ links_back s.args.links (λ u h. row_long e_bool.ty.Denot e_bool.ty.own_val 8 s.args.links g.0 u g.1.1 (omega (arith, g.1.0.1))) g.1.0.1 in
     let blocks : (let a = c.args in
-    progressOf c.check_blocks-blocks.result ≡ check_blocks a.n a.f a.links a.plan.now (due a.n a.f) 0 0) = let a = c.args in
+    progress_of c.check_blocks-blocks.result ≡ check_blocks a.n a.f a.links a.plan.now (due a.n a.f) 0 0) = let a = c.args in
     c.check_blocks-blocks.ensures ∙ ap (λ (links : Links). check_blocks a.n a.f links a.plan.now (due a.n a.f) 0 0) same_links in
     let b = c in
     let e = b in
@@ -35,7 +35,7 @@ returns-in-Stopped-end c =
     let g = s.well_formed.1.1.0 in
     ap links_of c.rows-rows.ensures ∙ links_back s.args.links (λ u h. row_long e_bool.ty.Denot e_bool.ty.own_val 8 s.args.links g.0 u g.1.1 (omega (arith, g.1.0.1))) g.1.0.1 in
     let blocks : (let a = c.args in
-    progressOf c.check_blocks-blocks.result ≡ check_blocks a.n a.f a.links a.plan.now (due a.n a.f) 0 0) = let a = c.args in
+    progress_of c.check_blocks-blocks.result ≡ check_blocks a.n a.f a.links a.plan.now (due a.n a.f) 0 0) = let a = c.args in
     c.check_blocks-blocks.ensures ∙ ap (λ (links : Links). check_blocks a.n a.f links a.plan.now (due a.n a.f) 0 0) same_links in
     let k = c in
     let b = k in
@@ -49,7 +49,7 @@ returns-in-Reached-end c =
     let g = s.well_formed.1.1.0 in
     ap links_of c.rows-rows.ensures ∙ links_back s.args.links (λ u h. row_long e_bool.ty.Denot e_bool.ty.own_val 8 s.args.links g.0 u g.1.1 (omega (arith, g.1.0.1))) g.1.0.1 in
     let blocks : (let a = c.args in
-    progressOf c.check_blocks-blocks.result ≡ check_blocks a.n a.f a.links a.plan.now (due a.n a.f) 0 0) = let a = c.args in
+    progress_of c.check_blocks-blocks.result ≡ check_blocks a.n a.f a.links a.plan.now (due a.n a.f) 0 0) = let a = c.args in
     c.check_blocks-blocks.ensures ∙ ap (λ (links : Links). check_blocks a.n a.f links a.plan.now (due a.n a.f) 0 0) same_links in
     let k = c in
     let b = k in

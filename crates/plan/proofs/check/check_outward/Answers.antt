@@ -10,7 +10,7 @@ use Rattle.plan.specs.Members.{members}
 use Rattle.plan.specs.Due.{fan}
 use Rattle.route.specs.Commands.{width}
 use Rattle.plan.specs.Check.{Progress, check_groups, check_reports}
-use Rattle.plan.specs.Answers.{progressOf}
+use Rattle.plan.specs.Answers.{progress_of}
 use Rattle.plan.proofs.Parts.{halts_then, moves_then, sound_is}
 use Rattle.plan.proofs.Bounds.{fan_bound, code_bound}
 use Rattle.plan.proofs.check.check_outward.Goals as goal
@@ -25,7 +25,7 @@ check_reports-requires c =
     let sound : (let a = c.args in c.minus-sound.result ≡ minus (full a.n) a.fault) = let s = c in sound_is s.args.n s.args.fault _ _ s.requires.0 c.full.ensures c.minus-sound.ensures in
     let outwardOf : (Progress) = let a = c.args in
     check_groups (minus (full a.n) a.fault) (links_of a.rows.now) a.block.now (fan a.f 19 a.quorum (members (minus (minus (full a.n) a.fault) a.quorum))) a.start a.before in
-    let outward : (progressOf c.check_fan-outward.result ≡ outwardOf) = let m = c in
+    let outward : (progress_of c.check_fan-outward.result ≡ outwardOf) = let m = c in
     let a = m.args in
     c.check_fan-outward.ensures
     ∙ ap₂ (λ (W others : ℕ). check_groups W (links_of a.rows.now) a.block.now (fan a.f 19 a.quorum (members others)) a.start a.before) sound (c.minus-others.ensures ∙ ap (λ (x : ℕ). minus x a.quorum) sound) in

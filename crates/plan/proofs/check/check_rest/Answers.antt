@@ -10,7 +10,7 @@ use Rattle.plan.specs.Members.{members}
 use Rattle.plan.specs.Due.{fan, pairs}
 use Rattle.route.specs.Commands.{width}
 use Rattle.plan.specs.Check.{Progress, and_then, check_groups, check_reports}
-use Rattle.plan.specs.Answers.{progressOf}
+use Rattle.plan.specs.Answers.{progress_of}
 use Rattle.plan.proofs.Parts.{halts_then, moves_then, sound_is, rest_split}
 use Rattle.plan.proofs.Bounds.{fan_bound, code_bound}
 use Rattle.plan.proofs.check.check_rest.Goals as goal
@@ -24,7 +24,7 @@ unfolding width
 check_among-requires c =
     let sound : (let a = c.args in c.minus-sound.result ≡ minus (full a.n) a.fault) = let s = c in sound_is s.args.n s.args.fault _ _ s.requires.0 c.full.ensures c.minus-sound.ensures in
     let inward : (let a = c.args in
-    progressOf c.check_fan-inward.result ≡ check_groups (minus (full a.n) a.fault) (links_of a.rows.now) a.block.now (fan a.f 17 a.side (members (minus a.quorum a.side))) 4 0) = let m = c in
+    progress_of c.check_fan-inward.result ≡ check_groups (minus (full a.n) a.fault) (links_of a.rows.now) a.block.now (fan a.f 17 a.side (members (minus a.quorum a.side))) 4 0) = let m = c in
     let a = m.args in
     c.check_fan-inward.ensures
     ∙ ap₂ (λ (W receivers : ℕ). check_groups W (links_of a.rows.now) a.block.now (fan a.f 17 a.side (members receivers)) 4 0) sound c.minus-receivers.ensures in
@@ -38,7 +38,7 @@ pub returns-in-Stopped : goal.returns-in-Stopped
 returns-in-Stopped c =
     let sound : (let a = c.args in c.minus-sound.result ≡ minus (full a.n) a.fault) = let s = c in sound_is s.args.n s.args.fault _ _ s.requires.0 c.full.ensures c.minus-sound.ensures in
     let inward : (let a = c.args in
-    progressOf c.check_fan-inward.result ≡ check_groups (minus (full a.n) a.fault) (links_of a.rows.now) a.block.now (fan a.f 17 a.side (members (minus a.quorum a.side))) 4 0) = let m = c in
+    progress_of c.check_fan-inward.result ≡ check_groups (minus (full a.n) a.fault) (links_of a.rows.now) a.block.now (fan a.f 17 a.side (members (minus a.quorum a.side))) 4 0) = let m = c in
     let a = m.args in
     c.check_fan-inward.ensures
     ∙ ap₂ (λ (W receivers : ℕ). check_groups W (links_of a.rows.now) a.block.now (fan a.f 17 a.side (members receivers)) 4 0) sound c.minus-receivers.ensures in
@@ -55,7 +55,7 @@ pub returns-in-Reached : goal.returns-in-Reached
 returns-in-Reached c =
     let sound : (let a = c.args in c.minus-sound.result ≡ minus (full a.n) a.fault) = let s = c in sound_is s.args.n s.args.fault _ _ s.requires.0 c.full.ensures c.minus-sound.ensures in
     let inward : (let a = c.args in
-    progressOf c.check_fan-inward.result ≡ check_groups (minus (full a.n) a.fault) (links_of a.rows.now) a.block.now (fan a.f 17 a.side (members (minus a.quorum a.side))) 4 0) = let m = c in
+    progress_of c.check_fan-inward.result ≡ check_groups (minus (full a.n) a.fault) (links_of a.rows.now) a.block.now (fan a.f 17 a.side (members (minus a.quorum a.side))) 4 0) = let m = c in
     let a = m.args in
     c.check_fan-inward.ensures
     ∙ ap₂ (λ (W receivers : ℕ). check_groups W (links_of a.rows.now) a.block.now (fan a.f 17 a.side (members receivers)) 4 0) sound c.minus-receivers.ensures in

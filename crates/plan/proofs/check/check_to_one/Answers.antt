@@ -7,7 +7,7 @@ use Rattle.network.specs.Rows.{links_of}
 use Rattle.plan.specs.Members.{members}
 use Rattle.plan.specs.Due.{to_one}
 use Rattle.plan.specs.Check.{check_groups}
-use Rattle.plan.specs.Answers.{progressOf}
+use Rattle.plan.specs.Answers.{progress_of}
 use Rattle.plan.proofs.Walks.{toOneStep, to_one_walk, to_one_other}
 use Rattle.plan.proofs.Bounds.{to_one_bound}
 use Rattle.plan.proofs.Lowests.{row_others, out_first, out_stays, out_other, Taken, take_lowest, taken_less, Taking, taking_starts, taking_ends, taking_halts, taking_moves}
@@ -22,7 +22,7 @@ pub returns-in-Stopped : goal.returns-in-Stopped
 returns-in-Stopped c =
     let first : (let l = c.loop-left in Taken l.left c.lowest-source.result c.minus-others.result) = take_lowest c.loop-left.invariant.1.small c.loop-left-test.true c.lowest-source.ensures c.single-only.ensures c.minus-others.ensures in
     let stepped : (let a = c.args in let l = c.loop-left in
-    progressOf c.check_one-route.result ≡ toOneStep a.sound (links_of a.rows.now) a.plan.now a.receiver c.lowest-source.result l.at l.carriages) = to_one_other _ _ _ _ _ _ _ (out_other first c.loop-left.invariant.0) _ c.single-only.ensures _ c.check_one-route.ensures in
+    progress_of c.check_one-route.result ≡ toOneStep a.sound (links_of a.rows.now) a.plan.now a.receiver c.lowest-source.result l.at l.carriages) = to_one_other _ _ _ _ _ _ _ (out_other first c.loop-left.invariant.0) _ c.single-only.ensures _ c.check_one-route.ensures in
     taking_halts c.loop-left.invariant.1 first stepped c.in-Stopped.is
 
 pub loop-left-smaller : goal.loop-left-smaller
@@ -34,7 +34,7 @@ pub loop-left-preserved : goal.loop-left-preserved
 loop-left-preserved c =
     let first : (let l = c.loop-left in Taken l.left c.lowest-source.result c.minus-others.result) = take_lowest c.loop-left.invariant.1.small c.loop-left-test.true c.lowest-source.ensures c.single-only.ensures c.minus-others.ensures in
     let stepped : (let a = c.args in let l = c.loop-left in
-    progressOf c.check_one-route.result ≡ toOneStep a.sound (links_of a.rows.now) a.plan.now a.receiver c.lowest-source.result l.at l.carriages) = to_one_other _ _ _ _ _ _ _ (out_other first c.loop-left.invariant.0) _ c.single-only.ensures _ c.check_one-route.ensures in
+    progress_of c.check_one-route.result ≡ toOneStep a.sound (links_of a.rows.now) a.plan.now a.receiver c.lowest-source.result l.at l.carriages) = to_one_other _ _ _ _ _ _ _ (out_other first c.loop-left.invariant.0) _ c.single-only.ensures _ c.check_one-route.ensures in
     let i = c.loop-left.invariant in let f = first in (out_stays _ f i.0, taking_moves i.1 f stepped c.in-Reached.is)
 
 pub returns : goal.returns

@@ -9,7 +9,7 @@ use Rattle.network.specs.Rows.{links_of}
 use Rattle.plan.specs.Members.{members}
 use Rattle.plan.specs.Due.{to_one}
 use Rattle.plan.specs.Check.{check_groups}
-use Rattle.plan.specs.Answers.{progressOf}
+use Rattle.plan.specs.Answers.{progress_of}
 use Rattle.plan.proofs.Walks.{toOneStep, to_one_walk, to_one_other}
 use Rattle.plan.proofs.Bounds.{to_one_bound}
 use Rattle.plan.proofs.Lowests.{row_others, out_first, out_stays, out_other, Taken, take_lowest, taken_less, Taking, taking_starts, taking_ends, taking_halts, taking_moves}
