@@ -1,7 +1,7 @@
 //! Finds the proved static library and has it linked.
 //!
 //! It stands in the directory that `AGREEMENT_LIB_DIR` names, or else where
-//! `rt staticlib agreement` puts it, in `target/staticlib` of the repository that this
+//! `sh tools/archive` puts it, in `target/staticlib` of the repository that this
 //! crate lies in.
 
 use std::env;
@@ -55,7 +55,7 @@ fn beside_this_crate() -> PathBuf {
     let directory = Path::new(&this_crate).join("../../target/staticlib");
     if !directory.join(ARCHIVE).is_file() {
         refuse(&format!(
-            "there is no {}: run `rt staticlib agreement` in the repository, or, where this \
+            "there is no {}: run `sh tools/archive` in the repository, or, where this \
              crate stands alone, set {DIRECTORY_VARIABLE} to the absolute path of the folder that has {ARCHIVE}",
             directory.join(ARCHIVE).display()
         ));

@@ -21,7 +21,7 @@ use lib.ListN.{length}
 use Rattle.sets.specs.Sets.{Set, In, Out}
 use Rattle.facts.specs.Lists.{Each}
 use Rattle.facts.proofs.Bools.{cases, clash, and_left, and_right}
-use Rattle.bc.specs.Algorithm.{Path, on_way, Choice, Values, some, arrives, all_are_lem, agreed, propagate, all_below, equality, adopt, rest, within, case1, case2, step_j, bc_block}
+use Rattle.bc.specs.Algorithm.{Path, on_way, Choice, Values, some, arrives, all_are, agreed, propagate, all_below, equality, adopt, rest, within, case1, case2, step_j, bc_block}
 use Rattle.bc.specs.Allowed.{PathOf, Separate, Sound}
 
 pub some_none : (X : Set) (l : List ℕ) → Each (λ s. Out X s) l → some X l ≡ false
@@ -48,8 +48,8 @@ all_below_true (suc n) p h =
     let ih = all_below_true n p (λ i k. h i (omega arith)) in
     cc
 
-all_are_lem : (X : Set) (w : Values) (x : ℕ) (ps : List Path) → Each (λ p. arrives X w p ≡ x) ps → all_are_lem x (map (arrives X w) ps) ≡ true
-unfolding all_are_lem
+all_are_lem : (X : Set) (w : Values) (x : ℕ) (ps : List Path) → Each (λ p. arrives X w p ≡ x) ps → all_are x (map (arrives X w) ps) ≡ true
+unfolding all_are
 all_are_lem X w x [] h = refl
 all_are_lem X w x (p ∷ ps) h =
     let a = eq-eqb (arrives X w p) x (h p (Memᴰ.head refl)) in
@@ -57,8 +57,8 @@ all_are_lem X w x (p ∷ ps) h =
     cc
 
 alike : (X : Set) (w : Values) (x y f : ℕ) (ps : List Path) → length ps ≡ suc f → Each (λ p. arrives X w p ≡ x) ps
-    → all_are_lem y (map (arrives X w) ps) ≡ eqb x y
-unfolding all_are_lem
+    → all_are y (map (arrives X w) ps) ≡ eqb x y
+unfolding all_are
 alike X w x y f [] k h = absurd (omega arith)
 alike X w x y f (p ∷ ps) k h =
     let a = h p (Memᴰ.head refl) in

@@ -43,7 +43,7 @@ use Rattle.flow.specs.Theorems.{Found, sought}
 use Rattle.flow.proofs.Finding.{finds}
 use Rattle.flow.proofs.Cutting.{Unreached, lost_weak}
 use Rattle.planner.specs.Choice.{meets_all, side_of, quorum_of}
-use Rattle.planner.specs.Plan.{routes_to, fans_to, mesh_of, report_to, block_with_lem, block_of, plan_of}
+use Rattle.planner.specs.Plan.{routes_to, fans_to, mesh_of, report_to, block_with, block_of, plan_of}
 use Rattle.planner.proofs.WeakSets.{weak_of}
 use Rattle.flow.proofs.Membership.{has_left, left_has, within_of, has_only, only_out, only_has}
 use Rattle.planner.proofs.Hitting.{has_sound, sound_has, sound_small, sound_count, meets_at, side_meets, thinned_inside, thinned_meets, thinned_needs}
@@ -243,8 +243,8 @@ module _ (n f : ℕ) (links : Links) (p : Proper n f links) (g : first_bad n f l
       unfolding repeated
       fan_nothing = record { order = sym (ap (λ (s : ℕ). repeated (f + 1) (members s)) nothing_inward ∙ ap (repeated (f + 1)) members_none); start = λ p m. elim m [ ]; routes = λ p m. elim m [ ]; separate = tt }
 
-      block_with_lem : (d : DueBlock) → d.faults ≡ F → (A ≡ d.part) ⊎ (A ≡ minus (minus (full n) F) d.part) → InBlock n f links d (block_with_lem n f links F A S)
-      unfolding block_with_lem
+      block_with_lem : (d : DueBlock) → d.faults ≡ F → (A ≡ d.part) ⊎ (A ≡ minus (minus (full n) F) d.part) → InBlock n f links d (block_with n f links F A S)
+      unfolding block_with
       block_with_lem d e side =
           let q = choice_quorum in
           let z = choice_size in
@@ -270,7 +270,7 @@ module _ (n f : ℕ) (links : Links) (p : Proper n f links) (g : first_bad n f l
 
   -- its S has f + 1 servers, all in A
   pub block_quorum : (d : DueBlock) → Memᴰ d (due n f) → (size (block_of n f links d).quorum ≡ f + 1) × (minus (block_of n f links d).quorum (block_of n f links d).side ≡ 0)
-  unfolding block_of block_with_lem
+  unfolding block_of block_with
   block_quorum d m =
       let (small, bound, part) = due_in n f d m in
       let F = d.faults in

@@ -22,7 +22,7 @@ use Rattle.split.specs.Split.{some_below}
 use Rattle.split.specs.Sources.{SourceRows}
 use Rattle.split.proofs.SourceRows.{rows_has}
 use Rattle.split.proofs.Neighbours.{some_at, some_of, none_of}
-use Rattle.two_way.specs.Separation.{one_way_lem}
+use Rattle.two_way.specs.Separation.{one_way}
 use Rattle.two_way.specs.Scan.{unlike}
 use Rattle.two_way.specs.Least.{TwoWay}
 
@@ -31,23 +31,23 @@ abbrev unanswered : Links → ℕ → Set
 unanswered links u v = linked_in links u v && not (linked_in links v u)
 
 module _ (n f : ℕ) (links : Links) (p : Proper n f links) where
-  one_way_lem : (u v : ℕ) → linked_in links u v ≡ true → linked_in links v u ≡ false → one_way_lem n links ≡ true
-  unfolding one_way_lem
+  one_way_lem : (u v : ℕ) → linked_in links u v ≡ true → linked_in links v u ≡ false → one_way n links ≡ true
+  unfolding one_way
   one_way_lem u v e q =
       some_of n (λ (u : ℕ). some_below n (unanswered links u)) u (p.from u v e)
       (some_of n (unanswered links u) v (p.to u v e) (let z = q in cc))
 
-  pub no_one_way : TwoWay (linked_in links) → one_way_lem n links ≡ false
-  unfolding one_way_lem
+  pub no_one_way : TwoWay (linked_in links) → one_way n links ≡ false
+  unfolding one_way
   no_one_way back =
       none_of n (λ (u : ℕ). some_below n (unanswered links u))
       (λ u h. none_of n (unanswered links u) (λ v k. cases (linked_in links u v) (λ e. let r = back u v e in cc) (λ e. cc)))
 
-  pub two_way : one_way_lem n links ≡ false → (u v : ℕ) → linked_in links u v ≡ linked_in links v u
+  pub two_way : one_way n links ≡ false → (u v : ℕ) → linked_in links u v ≡ linked_in links v u
   two_way h u v = same (linked_in links u v) (linked_in links v u) (back u v) (back v u)
     where
       back : (u v : ℕ) → linked_in links u v ≡ true → linked_in links v u ≡ true
-      back u v e = cases (linked_in links v u) (λ x. x) (λ x. clash (one_way_lem n links) (one_way_lem u v e x) h)
+      back u v e = cases (linked_in links v u) (λ x. x) (λ x. clash (one_way n links) (one_way_lem u v e x) h)
 
   module _ (rows sources : List ℕ) (r : rows ≡ rows_of (linked_in links)) (so : SourceRows links sources) where
     row_of : (u v : ℕ) → has (get_or rows u 0) v ≡ linked_in links u v
@@ -60,14 +60,14 @@ module _ (n f : ℕ) (links : Links) (p : Proper n f links) where
         (λ e. let a = p.from v u e in let m = p.most in let t = lt-ltb v 8 (omega arith) in cc)
         (λ e. cases (ltb v 8) (λ t. cc) (λ t. cc))
 
-    alike : one_way_lem n links ≡ false → unlike rows sources ≡ false
+    alike : one_way n links ≡ false → unlike rows sources ≡ false
     unfolding unlike
     alike h =
         none_of 8 (λ (u : ℕ). not (eqb (get_or rows u 0) (get_or sources u 0)))
         (λ u k. ap not (eq-eqb (get_or rows u 0) (get_or sources u 0) (same_all (get_or rows u 0) (get_or sources u 0) (λ v. row_of u v ∙ two_way h u v ∙ sym (source_of u v k)))))
 
-    differs : one_way_lem n links ≡ true → unlike rows sources ≡ true
-    unfolding unlike one_way_lem
+    differs : one_way n links ≡ true → unlike rows sources ≡ true
+    unfolding unlike one_way
     differs h =
         let a = some_at n (λ (u : ℕ). some_below n (unanswered links u)) h in
         let b = some_at n (unanswered links a.0) a.2 in
@@ -80,8 +80,8 @@ module _ (n f : ℕ) (links : Links) (p : Proper n f links) where
             some_of 8 (λ (u : ℕ). not (eqb (get_or rows u 0) (get_or sources u 0))) u k
             (ap not (ne_eqb (get_or rows u 0) (get_or sources u 0) (λ same. clash (has (get_or rows u 0) v) (row_of u v ∙ e) (ap (λ (x : ℕ). has x v) same ∙ source_of u v k ∙ q))))
 
-    pub unlike_is : unlike rows sources ≡ one_way_lem n links
-    unlike_is = cases (one_way_lem n links) (λ e. differs e ∙ sym e) (λ e. alike e ∙ sym e)
+    pub unlike_is : unlike rows sources ≡ one_way n links
+    unlike_is = cases (one_way n links) (λ e. differs e ∙ sym e) (λ e. alike e ∙ sym e)
 
 -- the loop of `unlike`: no server below u has other links than sources
 pub record Compared (rows sources : List ℕ) (u : ℕ) : Type 0 where

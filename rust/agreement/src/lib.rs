@@ -28,7 +28,7 @@
 //! # Linking
 //!
 //! Inside the library's repository the archive is looked for where
-//! `rt staticlib agreement` puts it. Elsewhere, as a path dependency or as a copy of
+//! `sh tools/archive` puts it. Elsewhere, as a path dependency or as a copy of
 //! this folder alone, set `AGREEMENT_LIB_DIR` to the absolute path of the folder that
 //! has `libagreement.a`, such as the `lib` of `sh tools/install PREFIX`. The archive is
 //! for x86-64 Linux.

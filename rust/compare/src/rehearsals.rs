@@ -20,12 +20,12 @@ pub(crate) const FILE_LIMIT: usize = 65_536;
 /// The three files of a site, `None` for one that is not there.
 type Files = [Option<Vec<u8>>; 3];
 
-/// The program as `rt check` and `rt ci` build it.
+/// The program as `rt run` and `rt ci` build it.
 fn program() -> PathBuf {
-    let path = Path::new(env!("CARGO_MANIFEST_DIR")).join("../../target/bin/rehearse");
+    let path = Path::new(env!("CARGO_MANIFEST_DIR")).join("../../crates/rehearse/out/rehearse");
     assert!(
         path.is_file(),
-        "there is no {}: run `rt check rehearse` first",
+        "there is no {}: run `rt run` in crates/rehearse first",
         path.display()
     );
     path

@@ -1,5 +1,5 @@
 //! The program `rehearse` and the reference on given and random triples of files; run with
-//! `cargo test --release`, after `rt check rehearse`.
+//! `cargo test --release`, after `rt ci`.
 
 use compare::rehearsals::{given_files, random_files};
 
