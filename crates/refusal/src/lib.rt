@@ -5,7 +5,7 @@
 ghost use Rattle.std.specs.Prelude.{◌≡◌};
 ghost use Rattle.refusal.specs.Refused.{refusal_of, whose_of, number_of, place_of};
 
-#[derive(Drop)]
+#[derive(Clone, Copy)]
 pub enum CardGround {
     // More bytes than a card may have.
     TooLong,
@@ -19,7 +19,7 @@ pub enum CardGround {
     Range(usize),
 }
 
-#[derive(Drop)]
+#[derive(Clone, Copy)]
 pub enum PlanGround {
     // More bytes than a plan may have.
     TooLong,
@@ -39,7 +39,7 @@ pub enum PlanGround {
     Reporters(usize),
 }
 
-#[derive(Drop)]
+#[derive(Clone, Copy)]
 pub enum CallGround {
     // The inputs are not n bytes of 0 or 1.
     Inputs,
@@ -57,7 +57,7 @@ pub enum CallGround {
     PlanBuffer,
 }
 
-#[derive(Drop)]
+#[derive(Clone, Copy)]
 pub enum Refusal {
     Card(CardGround),
     Plan(PlanGround),

@@ -12,7 +12,7 @@ ghost use Rattle.carriage.specs.Openings.{Servers, ReportOf};
 use carriage::{arrival, walk};
 
 // What the arrivals of a step speak against, server by server.
-#[derive(Drop)]
+#[derive(Clone, Copy)]
 pub struct Against {
     // The servers with an arrival other than 0.
     pub zero: u8,

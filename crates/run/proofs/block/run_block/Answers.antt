@@ -1,0 +1,12 @@
+-- `run::block::run_block` meets its contract. The six steps' results make up the block's: `half` is what holds after three of them, and the lemmas are
+-- those of `Blockwise`, whose premises `search` finds. Assumes nothing.
+use Rattle.run.proofs.Blockwise.{Half, half_runs, block_runs}
+use Rattle.run.proofs.block.run_block.Goals as goal
+
+-- A∩S, and the other three
+pub returns : goal.returns
+returns c =
+    let half : (let a = c.args in
+    let r = c.step3-s3.result in
+    Half a.opening a.block.now a.faulty a.table.now a.number a.before.v a.before.sure a.before.t c.minus-sound.result r.v r.sure r.t) = search half_runs in
+    search (block_runs, half, c.meet-kept.ensures)
