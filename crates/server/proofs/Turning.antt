@@ -16,7 +16,7 @@ use lib.Dec.{eqb, ltb}
 use lib.ListN.{length, set, drop, replicate, length-set}
 use borrow.Author.Tests.{eq-eqb, ne_eqb, lt-ltb, le-ltb, eqb-true, ltb-true}
 use Rattle.facts.proofs.Bools.{cases, and_left, and_right}
-use Rattle.refusal.specs.Refused.{Refused, call, refusal_of}
+use Rattle.refusal.specs.Refused.{call, refusal_of}
 use Rattle.refusal.specs.declared.Refusal.{Refusal}
 use Rattle.refusal.specs.declared.CallGround.{CallGround}
 use Rattle.network.specs.Links.{Links}

@@ -1,10 +1,10 @@
 use mathlib.Core.Path.{refl}
-use Prim.Native.Nat.{◌-◌, ◌≤◌, ◌<◌}
+use Prim.Native.Nat.{◌≤◌, ◌<◌}
 use native.Mathlib.Omega.{arith}
 use lib.ListN.{length}
 use borrow.Author.Rules.{rules}
 use Rattle.route.proofs.Walks.{route_short}
-use Rattle.route.proofs.Turns.{Walking, walk_astray, walk_starts, walk_over, walk_stops, walk_ends, walk_on_lem}
+use Rattle.route.proofs.Turns.{walk_astray, walk_starts, walk_over, walk_stops, walk_ends, walk_on_lem}
 use Rattle.route.proofs.check_route.Goals as goal
 
 pub returns-then-operand-lt8 : goal.returns-then-operand-lt8

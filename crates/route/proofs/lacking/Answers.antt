@@ -1,6 +1,5 @@
 -- `route::lacking` meets its contract. The two halves make up the word (`Fills`). Assumes nothing.
 use native.Mathlib.Omega.{arith}
-use borrow.Author.Rules.{rules}
 use Rattle.route.proofs.Fills.{lack_word}
 use Rattle.route.proofs.lacking.Goals as goal
 

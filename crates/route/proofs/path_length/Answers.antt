@@ -1,9 +1,4 @@
-use mathlib.Core.Path.{◌≡◌}
-use Prim.Native.Nat.{◌+◌, ◌-◌, ◌≤◌}
 use native.Mathlib.Omega.{arith}
-use borrow.Author.Rules.{rules}
-use lib.ListN.{length, take, drop}
-use Rattle.route.specs.Route.{path}
 use Rattle.route.proofs.Paths.{path_stops, path_passes, path_ends}
 use Rattle.route.proofs.path_length.Goals as goal
 

@@ -1,12 +1,9 @@
-use mathlib.Core.Path.{◌≡◌, refl, ap, ◌∙◌}
-use mathlib.Core.Logic.{⊎_elim}
-use Prim.Native.Nat.{◌-◌}
+use mathlib.Core.Path.{refl, ap, ◌∙◌}
 use borrow.Author.Rules.{rules}
-use Rattle.split.specs.declared.SplitAnswer.{SplitAnswer}
 use Rattle.split.specs.Answers.{split_answer_of}
 use Rattle.split.specs.Sources.{Tables}
 use Rattle.split.proofs.SourceRows.{halves_of}
-use Rattle.split.proofs.Scans.{Scan, Sides, Splits, limit_of, scan_starts, scan_ends, scan_past, sides_start, sides_end, sides_past, splits_start, splits_end, splits_past, splits_hit, sides_fall, splits_fall}
+use Rattle.split.proofs.Scans.{limit_of, scan_starts, scan_ends, scan_past, sides_start, sides_end, sides_past, splits_start, splits_end, splits_past, splits_hit, sides_fall, splits_fall}
 use Rattle.split.proofs.first_bad.Goals as goal
 use Rattle.split.proofs.first_bad.Goals.{else-is_weak, else-sizes-at, then-is_weak+else-loop-k-test, then-sizes-at+else-loop-j-test}
 

@@ -1,8 +1,6 @@
 -- `split::split_test` meets its contract. The card reader gives the refusal, or a proper network, whose first bad split is searched. Assumes
 -- nothing.
 use mathlib.Core.Path.{sym, ap, ◌∙◌}
-use Prim.Native.Nat.{◌-◌}
-use borrow.Author.Rules.{rules}
 use Rattle.network.specs.Answers.{reading_of}
 use Rattle.network.proofs.Heads.{head_proper}
 use Rattle.split.proofs.Heads.{refused_split, network_split}

@@ -1,6 +1,5 @@
 -- `two_way::by_rule` meets its contract. Assumes nothing.
 use mathlib.Core.Path.{◌≡◌, sym, ◌∙◌}
-use borrow.Author.Rules.{rules}
 use Rattle.two_way.specs.Separation.{one_way}
 use Rattle.two_way.proofs.Returns.{unlike_is}
 use Rattle.two_way.proofs.Ruled.{quick_one_way, quick_ruled}

@@ -1,10 +1,8 @@
 use mathlib.Core.Path.{◌≡◌}
-use Prim.Native.Nat.{◌-◌}
 use lib.ListN.{get_or}
 use native.Mathlib.Omega.{arith}
-use borrow.Author.Rules.{rules}
 use Rattle.sets.specs.Sets.{single, union, full}
-use Rattle.two_way.proofs.Linked.{all_of, with_itself, joining_starts, joining_goes, joining_misses, joining_ends, Joining}
+use Rattle.two_way.proofs.Linked.{all_of, with_itself, joining_misses, joining_ends}
 use Rattle.two_way.proofs.every_linked.Goals as goal
 
 pub returns-then-all-servers : goal.returns-then-all-servers

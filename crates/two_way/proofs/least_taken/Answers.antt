@@ -1,15 +1,13 @@
 use mathlib.Core.Path.{refl, sym, ◌∙◌}
-use mathlib.Core.Logic.{⊎_elim}
-use Prim.Native.Nat.{ℕ, ◌-◌}
+use Prim.Native.Nat.{ℕ}
 use native.Mathlib.Omega.{arith}
-use borrow.Author.Rules.{rules}
 use Rattle.network.specs.Links.{Links}
 use Rattle.network.specs.Proper.{Proper}
 use Rattle.split.specs.Sources.{SourceRows, Tables}
 use Rattle.split.proofs.SourceRows.{halves_of}
 use Rattle.two_way.proofs.Returns.{two_way}
 use Rattle.two_way.proofs.Linked.{linked_most}
-use Rattle.two_way.proofs.Scanned.{Scan, scan_starts, scan_less, scan_kept, scan_nothing, scan_ends}
+use Rattle.two_way.proofs.Scanned.{scan_starts, scan_less, scan_kept, scan_nothing, scan_ends}
 use Rattle.two_way.proofs.least_taken.Goals as goal
 use Rattle.two_way.proofs.least_taken.Goals.{else-taken-least, then-taken-least}
 

@@ -1,6 +1,5 @@
 -- `two_way::older_rule` meets its contract. Assumes nothing.
 use native.Mathlib.Omega.{arith}
-use borrow.Author.Rules.{rules}
 use Rattle.two_way.specs.Quick.{servers_wanted, away_wanted}
 use Rattle.two_way.proofs.Ruled.{rule_short, rule_enough}
 use Rattle.two_way.proofs.older_rule.Goals as goal

@@ -1,6 +1,5 @@
 -- `two_way::quick_test` meets its contract. The card reader gives the refusal, or a proper network, for which the rule is asked. Assumes nothing.
 use mathlib.Core.Path.{sym, ap, ◌∙◌}
-use borrow.Author.Rules.{rules}
 use Rattle.network.specs.Answers.{reading_of}
 use Rattle.network.proofs.Heads.{head_proper}
 use Rattle.two_way.proofs.Ruled.{refused_quick, network_quick}

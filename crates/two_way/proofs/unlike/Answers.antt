@@ -1,7 +1,6 @@
-use Prim.Native.Nat.{◌-◌}
 use native.Mathlib.Omega.{arith}
 use borrow.Author.Rules.{rules}
-use Rattle.two_way.proofs.Returns.{Compared, compared_starts, compared_goes, compared_differs, compared_ends}
+use Rattle.two_way.proofs.Returns.{compared_differs, compared_ends}
 use Rattle.two_way.proofs.unlike.Goals as goal
 
 pub returns-then-rows-u : goal.returns-then-rows-u

@@ -1,8 +1,5 @@
 -- `route::command::is_cut` meets its contract. Each test turns one part of the definition (`Commands`). Assumes nothing.
 use Rattle.route.proofs.Commands.{cut_none, cut_unknown, cut_short}
-use Prim.Native.Nat.{◌-◌}
-use borrow.Author.Rules.{rules}
-use Rattle.route.specs.Commands.{width}
 use Rattle.route.proofs.command.is_cut.Goals as goal
 
 pub returns-then-bytes-eq0 : goal.returns-then-bytes-eq0

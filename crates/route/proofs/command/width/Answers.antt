@@ -1,5 +1,4 @@
 -- `route::command::width` meets its contract. Each test turns one part of the definition. Assumes nothing.
-use Prim.Native.Nat.{◌-◌}
 use borrow.Author.Tests.{eq-eqb, ne_eqb}
 use Rattle.route.specs.Commands.{width}
 use Rattle.route.proofs.command.width.Goals as goal

@@ -3,8 +3,6 @@ use mathlib.Core.Path.{refl}
 use Rattle.server.specs.Answers.{none}
 use Rattle.server.proofs.turn.none.Statement.{statement}
 use Rattle.server.proofs.turn.none.Tie as tie
-use Rattle.server.proofs.turn.none.Reads as reads
-use Rattle.server.proofs.turn.none.Lts as lts
 
 returns : tie.Need-returns
 unfolding none

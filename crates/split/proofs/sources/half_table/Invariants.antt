@@ -1,10 +1,6 @@
 -- `split::sources::half_table` meets its contract. The invariant of its loop, `Halving`: the entries below x are made. The measure is what is left of
 -- the sixteen. Assumes nothing.
-use mathlib.Core.Path.{◌≡◌, refl}
-use Prim.Native.Nat.{◌-◌}
-use native.Mathlib.Omega.{arith}
-use borrow.Author.Rules.{rules}
-use Rattle.split.proofs.SourceRows.{Halving, half_starts, half_turn}
+use Rattle.split.proofs.SourceRows.{Halving}
 use Rattle.split.proofs.sources.half_table.Given as goal
 
 abbrev pub invariant-loop-x : goal.invariant-loop-x

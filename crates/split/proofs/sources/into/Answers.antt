@@ -1,5 +1,4 @@
 -- `split::sources::into` meets its contract: the union of what the two tables hold for the two halves of s. Assumes nothing.
-use borrow.Author.Rules.{rules}
 use Rattle.split.specs.Sources.{into_of}
 use Rattle.split.proofs.sources.into.Goals as goal
 

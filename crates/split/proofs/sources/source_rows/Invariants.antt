@@ -1,10 +1,6 @@
 -- `split::sources::source_rows` meets its contract. The invariant of its loop, `Rows`: the rows below v are made. The measure is what is left of the
 -- eight. Assumes nothing.
-use mathlib.Core.Path.{◌≡◌, refl}
-use Prim.Native.Nat.{◌-◌}
-use native.Mathlib.Omega.{arith}
-use borrow.Author.Rules.{rules}
-use Rattle.split.proofs.SourceRows.{Rows, rows_start, rows_turn}
+use Rattle.split.proofs.SourceRows.{Rows}
 use Rattle.split.proofs.sources.source_rows.Given as goal
 
 abbrev pub invariant-loop-v : goal.invariant-loop-v

@@ -1,10 +1,6 @@
 use mathlib.Core.Path.{◌∙◌}
-use mathlib.Core.Logic.{⊎_elim}
-use Prim.Native.Nat.{◌-◌, ◌≤◌}
 use native.Mathlib.Omega.{arith}
-use borrow.Author.Rules.{rules}
 use Rattle.split.proofs.SourceRows.{to_starts, to_joins, to_passes, to_ends}
-use Rattle.split.specs.Sources.{SourcesOf}
 use Rattle.split.proofs.sources.sources.Goals as goal
 use Rattle.split.proofs.sources.sources.Goals.{else-links-u, then-links-u}
 
