@@ -3,15 +3,15 @@
 --     lowest_of_few      they are at most k
 --     lowest_of_size     they are k, if the set has so many
 -- Assumes nothing.
-use mathlib.Core.Path.{◌≡◌, refl, sym, ap, ◌∙◌}
-use mathlib.Core.Logic.{◌⊎◌, ⊎_elim}
-use mathlib.Core.Bool.{Bool, true, false, not, ◌&&◌, ◌||◌}
+use mathlib.Core.Path.{◌≡◌, sym, ap, ◌∙◌}
+use mathlib.Core.Logic.{⊎_elim}
+use mathlib.Core.Bool.{Bool, false, ◌&&◌, ◌||◌}
 use Prim.Native.Nat.{ℕ, zero, suc, ◌+◌, ◌≤◌, ◌<◌}
 use native.Mathlib.Omega.{arith}
 use lib.Dec.{eqb, ltb}
-use borrow.Author.Tests.{eqb-true, eqb-false, eq-eqb, ne_eqb, lt-ltb, ltb-true, le-ltb, ltb-false}
-use Rattle.facts.proofs.Bools.{cases, clash, is_false, or_cases}
-use Rattle.sets.specs.Sets.{In, Out, has, single, union, meet, minus, count, size, lowest}
+use borrow.Author.Tests.{eqb-true, eqb-false, eq-eqb, ne_eqb, lt-ltb, ltb-true}
+use Rattle.facts.proofs.Bools.{cases, clash, or_cases}
+use Rattle.sets.specs.Sets.{In, has, single, union, minus, size, lowest}
 use Rattle.sets.proofs.Members.{has_union, has_minus, has_single, has_empty, has_below, minus_small, same_all}
 use Rattle.sets.proofs.Counts.{count_same, count_none, count_or, count_without, without, size_union, size_empty}
 use Rattle.sets.proofs.LowestMember.{lowest_in, lowest_empty}

@@ -27,7 +27,7 @@ use Rattle.flow.specs.Search.{straight, out_in, with_start, with_end, with_use, 
 use Rattle.flow.proofs.Membership.{has_both, shared_small}
 use Rattle.flow.proofs.Lowest.{lowest_of_inside, lowest_of_few}
 use Rattle.flow.proofs.Kept.{nowhere, Kept, Valid}
-use Rattle.flow.proofs.Updates.{eqb_self, eqb_swap, one_nowhere, one_true, one_false, one_most, one_is, has_put, has_drop, one_put, one_drop, count_start, step_long, unstep_long, step_put, step_drop, into_put, from_put, into_drop, from_drop}
+use Rattle.flow.proofs.Updates.{eqb_self, eqb_swap, one_nowhere, one_true, one_most, one_is, has_put, has_drop, one_put, one_drop, count_start, step_long, unstep_long, step_put, step_drop, into_put, from_put, into_drop, from_drop}
 
 module _ (rows : List ℕ) (inner last sources k : ℕ) where
   -- one lacking at the entry side of x

@@ -4,7 +4,7 @@
 --     CutOff      what holds of the servers that are shown else: they are fewer, r is not among them, and every route from a source to r meets one
 --     Finds       the routes that the search answers are such routes
 --     Cuts        the servers that it answers are such servers
-use Rattle.std.specs.Prelude.{◌≡◌, true, List, ℕ, ◌≤◌, ◌<◌, length}
+use Rattle.std.specs.Prelude.{◌≡◌, true, List, ℕ, ◌<◌, length}
 use Rattle.facts.specs.Lists.{Each}
 use Rattle.sets.specs.Sets.{In, Out, has, minus, within, full, count}
 use Rattle.network.specs.Links.{Links, linked_in}

@@ -19,7 +19,7 @@ use Rattle.plan.specs.Members.{members}
 use Rattle.plan.specs.Due.{DueBlock, Group, blocks_of, fan, to_one, pairs, routes_due}
 use Rattle.route.specs.Route.{route_set}
 use Rattle.route.specs.Commands.{width, is_cut}
-use Rattle.plan.specs.Check.{Progress, reached, stopped, and_then, onward, is_due, is_report, route_at, check_group, check_groups, check_reports, check_block, check_blocks}
+use Rattle.plan.specs.Check.{Progress, reached, stopped, and_then, onward, is_due, is_report, check_group, check_groups, check_reports, check_block, check_blocks}
 use Rattle.plan.specs.Answers.{progress_of, group_of}
 use Rattle.plan.specs.declared.check.Progress as Code
 use Rattle.plan.proofs.Groups.{whole_command}

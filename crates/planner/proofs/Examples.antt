@@ -1,8 +1,6 @@
 -- The plan computed for small networks. Assumes nothing.
 use mathlib.Core.Path.{◌≡◌, refl}
-use mathlib.Core.Bool.{true, false}
-use mathlib.Core.List.{List, [], ◌∷◌, ◌++◌, map}
-use Prim.Native.Nat.{ℕ}
+use mathlib.Core.List.{[], ◌∷◌}
 use lib.ListN.{length}
 use Rattle.sets.specs.Sets.{has, single, union, meet, minus, within, encode, first_in, lowest, count, size, full}
 use Rattle.network.specs.Links.{no_links, with_link, linked_in}

@@ -4,17 +4,15 @@
 --     thinned-..                       what is left lies within, still meets every weak set, and needs each of its servers
 --     needed-weak                      for each of these there is a weak set with no other server of the quorum
 -- Assumes nothing.
-use mathlib.Core.Path.{◌≡◌, refl, sym, ap, ◌∙◌}
-use mathlib.Core.Logic.{◌⊎◌, inl, inr, ⊎_elim}
-use mathlib.Core.Bool.{Bool, true, false, cond, not, ◌&&◌, ◌||◌}
+use mathlib.Core.Path.{◌≡◌, sym, ap, ◌∙◌}
+use mathlib.Core.Bool.{true, false, ◌&&◌, ◌||◌}
 use Prim.Native.Nat.{ℕ, zero, suc, ◌+◌, ◌^◌, ◌≤◌, ◌<◌}
 use native.Mathlib.Omega.{arith}
-use lib.Bits.{and_le_l}
-use lib.Dec.{eqb, ltb, leb}
-use borrow.Author.Tests.{eq-eqb, eqb-true, eqb-false, ne_eqb, lt-ltb, ltb-true, not-false, not-true}
-use Rattle.facts.proofs.Bools.{cases, clash, both, is_false, and_left, and_right, same, bools}
-use Rattle.sets.specs.Sets.{Set, In, Out, has, single, meet, minus, within, full, count, size}
-use Rattle.sets.proofs.Members.{has_meet, has_minus, has_full, has_single, has_empty, has_below, meet_small, minus_small, full_small, within_in, in_within, same_all}
+use lib.Dec.{eqb, ltb}
+use borrow.Author.Tests.{eqb-true, eqb-false, lt-ltb, ltb-true, not-false, not-true}
+use Rattle.facts.proofs.Bools.{cases, clash, both, is_false, and_left, and_right}
+use Rattle.sets.specs.Sets.{In, Out, has, single, meet, minus, within, full, count, size}
+use Rattle.sets.proofs.Members.{has_meet, has_full, has_empty, minus_small, full_small, within_in, in_within}
 use Rattle.sets.proofs.Counts.{count_apart, count_all}
 use Rattle.network.specs.Links.{Links}
 use Rattle.split.specs.Split.{good, first_bad, some_below}

@@ -7,19 +7,18 @@
 -- A block has s (s − 1) routes of 12 and (m − s)(f + 1) of 13 for s servers in S and m in V−F; s is at least f + 1, and there (s − 1)(s − f − 1) is not
 -- negative. Assumes nothing.
 use mathlib.Core.Path.{◌≡◌, refl, sym, ap, ap₂, ◌∙◌}
-use mathlib.Core.Logic.{◌⊎◌, inl, inr, ⊎_elim}
-use mathlib.Core.Bool.{Bool, true, false, cond, not, ◌&&◌, ◌||◌}
-use mathlib.Core.List.{List, [], ◌∷◌, ◌++◌, map, Memᴰ}
-use Prim.Native.Nat.{ℕ, zero, suc, ◌+◌, ◌-◌, ◌*◌, ◌^◌, ◌≤◌, ◌<◌}
+use mathlib.Core.Bool.{true}
+use mathlib.Core.List.{List, [], ◌∷◌, map, Memᴰ}
+use Prim.Native.Nat.{ℕ, ◌+◌, ◌-◌, ◌*◌, ◌^◌, ◌≤◌, ◌<◌}
 use native.Mathlib.Omega.{arith}
 use native.Mathlib.Nat.{add-mul, mul_comm, mul-le-mul_left, suc-mul, zero-mul}
-use lib.Dec.{eqb, ltb, leb}
-use lib.ListN.{length, get_or, replicate, length-map, length-append, length-replicate}
-use borrow.Author.Tests.{eqb-true, leb-true, leb-false}
+use lib.Dec.{eqb}
+use lib.ListN.{length, replicate, length-map, length-append, length-replicate}
+use borrow.Author.Tests.{eqb-true}
 use Rattle.facts.specs.Lists.{Each}
-use Rattle.facts.proofs.Bools.{cases, clash, both, is_false}
-use Rattle.sets.specs.Sets.{Set, In, Out, has, meet, minus, union, within, full, count, size}
-use Rattle.sets.proofs.Members.{has_minus, has_empty, has_union, minus_small, within_in, same_all}
+use Rattle.facts.proofs.Bools.{cases, clash, is_false}
+use Rattle.sets.specs.Sets.{has, minus, union, within, full, count, size}
+use Rattle.sets.proofs.Members.{has_minus, has_union, minus_small, within_in, same_all}
 use Rattle.sets.proofs.Counts.{size_count, size_union, size_empty, count_beyond}
 use Rattle.network.specs.Links.{Links}
 use Rattle.network.specs.Proper.{Proper}
@@ -28,8 +27,7 @@ use Rattle.condition.proofs.Partitions.{member_of}
 use Rattle.plan.specs.Members.{members}
 use Rattle.plan.specs.Due.{DueBlock, due}
 use Rattle.rules.specs.Blocks.{Route, source_of, receiver_of, Report, Block, among_due, encode_block, encode_blocks, encode_plan, length_of}
-use Rattle.rules.specs.Rules.{repeated, Fan, pairs_of, ends_of, Mesh, reports_to, InBlock, InOrder}
-use Rattle.rules.specs.Routable.{Passes, Disjoint}
+use Rattle.rules.specs.Rules.{repeated, Fan, ends_of, Mesh, reports_to, InBlock, InOrder}
 use Rattle.rules.proofs.Lists.{length_members}
 use Rattle.rules.proofs.Order.{due_in}
 use Rattle.rules.proofs.Meshes.{among_count}
@@ -37,9 +35,9 @@ use Rattle.rules.proofs.Served.{fan_disjoint}
 use Rattle.rules.proofs.SeparateRoutes.{fan_meets}
 use Rattle.rules.proofs.Whole.{block_long}
 use Rattle.planner.specs.Plan.{block_of, plan_of, plan_bytes, block_length, lengths, plan_length}
-use Rattle.flow.proofs.Membership.{has_left, left_has, nothing_shared}
+use Rattle.flow.proofs.Membership.{has_left, nothing_shared}
 use Rattle.planner.proofs.Hitting.{has_sound, sound_small, sound_count}
-use Rattle.planner.proofs.Writing.{block_right, block_quorum, order_right}
+use Rattle.planner.proofs.Writing.{block_right, block_quorum}
 
 -- products
 

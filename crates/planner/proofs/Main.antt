@@ -9,19 +9,17 @@
 --     unchanged     a refused call changes no lent byte; untouched: no call changes one past the plan
 -- Assumes nothing.
 use mathlib.Core.Path.{◌≡◌, refl, sym, ap, ◌∙◌, subst}
-use mathlib.Core.Logic.{◌⊎◌, ◌↔◌}
-use mathlib.Core.Bool.{Bool, true, false, cond}
-use mathlib.Core.List.{List, [], ◌∷◌, ◌++◌, map, Memᴰ}
-use Prim.Native.Nat.{ℕ, zero, suc, ◌+◌, ◌≤◌, ◌<◌}
+use mathlib.Core.Bool.{Bool, cond}
+use mathlib.Core.List.{List}
+use Prim.Native.Nat.{ℕ, ◌≤◌, ◌<◌}
 use native.Mathlib.Omega.{arith}
 use lib.Dec.{ltb}
-use lib.ListN.{length, take, drop}
+use lib.ListN.{length, drop}
 use lib.Seq.{take-append_seam, drop-append_seam}
 use borrow.Author.Tests.{ltb-true, lt-ltb}
-use Rattle.refusal.specs.Refused.{Refused, call, number_of}
-use Rattle.facts.specs.Lists.{Each}
+use Rattle.refusal.specs.Refused.{Refused, call}
 use Rattle.facts.proofs.Bools.{cases, clash}
-use Rattle.sets.specs.Sets.{In, has, minus, size}
+use Rattle.sets.specs.Sets.{has, minus}
 use Rattle.sets.proofs.Members.{has_empty}
 use Rattle.network.specs.Links.{Links}
 use Rattle.network.specs.Card.{Network, network, refused, read_card}
@@ -30,7 +28,7 @@ use Rattle.split.specs.Split.{Split, good, bad, unread, first_bad, split_of, spl
 use Rattle.plan.specs.Due.{due}
 use Rattle.rules.specs.Theorems.{Accepted}
 use Rattle.rules.proofs.Main.{exact, decodes, shows_good_lem, shows_wide_lem}
-use Rattle.rules.specs.Blocks.{Block, decode_plan}
+use Rattle.rules.specs.Blocks.{decode_plan}
 use Rattle.planner.specs.Plan.{block_of, plan_of, plan_bytes, plan_length}
 use Rattle.planner.specs.Write.{Writing, wrote, broken, unwritten, plan_on, plan_for, fitting, write_on, write_into, after_write, written_in}
 use Rattle.planner.specs.Theorems.{Writes, Shortest, Least, Chooses, Lengthy, Accepts, Refuses17, Refuses18, Unchanged, Untouched}

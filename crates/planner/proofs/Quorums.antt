@@ -9,24 +9,24 @@
 -- Assumes nothing.
 use mathlib.Core.Path.{◌≡◌, refl, sym, ap, ◌∙◌}
 use mathlib.Core.Logic.{◌⊎◌, inl, inr, ⊎_elim}
-use mathlib.Core.Bool.{Bool, true, false, cond, not, ◌&&◌, ◌||◌}
+use mathlib.Core.Bool.{true, false, not, ◌&&◌}
 use Prim.Native.Nat.{ℕ, zero, suc, ◌+◌, ◌*◌, ◌^◌, ◌≤◌, ◌<◌}
 use native.Mathlib.Omega.{arith}
-use lib.Dec.{eqb, ltb, leb}
+use lib.Dec.{eqb, leb}
 use borrow.Author.Tests.{eqb-true, eqb-false, leb-true, leb-false}
-use Rattle.facts.proofs.Bools.{cases, clash, both, is_false, or_cases, and_left, and_right, not_true, bools}
-use Rattle.sets.specs.Sets.{Set, In, Out, has, single, union, meet, minus, full, count, size}
-use Rattle.sets.proofs.Members.{has_meet, has_union, has_full, has_empty, has_below, union_small, meet_small, minus_small, full_small}
+use Rattle.facts.proofs.Bools.{cases, clash, both, or_cases, bools}
+use Rattle.sets.specs.Sets.{In, Out, has, single, union, meet, minus, full, count, size}
+use Rattle.sets.proofs.Members.{has_meet, has_union, has_empty, union_small, meet_small, minus_small}
 use Rattle.sets.proofs.Counts.{count_mono, size_count}
 use Rattle.network.specs.Links.{Links}
-use Rattle.split.specs.Split.{good, first_bad, some_below, incoming}
+use Rattle.split.specs.Split.{good, first_bad, incoming}
 use Rattle.split.specs.Weak.{outside, weak}
 use Rattle.condition.proofs.Partitions.{member_of}
 use Rattle.planner.specs.Choice.{meets_all}
 use Rattle.planner.proofs.Submodular.{outside_sub}
-use Rattle.planner.proofs.WeakSets.{weak_some, weak_apart, weak_few, weak_of, weak_meets_weak}
-use Rattle.flow.proofs.Membership.{has_both, has_left, left_has, has_only, only_out}
-use Rattle.planner.proofs.Hitting.{Shared, sound_has, has_sound, sound_small, sound_count, Missed, meets_at, meets_not}
+use Rattle.planner.proofs.WeakSets.{weak_apart, weak_few, weak_of, weak_meets_weak}
+use Rattle.flow.proofs.Membership.{has_both, has_left, left_has, only_out}
+use Rattle.planner.proofs.Hitting.{sound_has, has_sound, sound_small, sound_count, Missed, meets_at, meets_not}
 
 pub record Quorum (n f : ℕ) (links : Links) (F S : ℕ) : Type 0 where
   pub inside : (x : ℕ) → In (has S) x → (x < n) × Out (has F) x

@@ -3,23 +3,20 @@
 --     reporters_many    at least f + 1 servers of V−F have a link to a server of F
 --     report_right      the report that is written keeps its rule
 -- Assumes nothing.
-use mathlib.Core.Path.{◌≡◌, refl, sym, ap, ◌∙◌}
-use mathlib.Core.Logic.{◌⊎◌, inl, inr, ⊎_elim}
-use mathlib.Core.Bool.{Bool, true, false, cond, not, ◌&&◌, ◌||◌}
-use Prim.Native.Nat.{ℕ, zero, suc, ◌+◌, ◌*◌, ◌^◌, ◌≤◌, ◌<◌}
+use mathlib.Core.Path.{◌≡◌, sym, ◌∙◌}
+use mathlib.Core.Bool.{true, false, not, ◌&&◌}
+use Prim.Native.Nat.{ℕ, suc, ◌+◌, ◌^◌, ◌≤◌, ◌<◌}
 use native.Mathlib.Omega.{arith}
-use native.Mathlib.Numerals.{add-one}
 use lib.Pow.{pow-lt, pow_mono}
-use lib.Dec.{eqb, ltb, leb}
-use borrow.Author.Tests.{eqb-true, eqb-false, eq-eqb, ne_eqb, lt-ltb, leb-true, leb-false}
-use Rattle.facts.proofs.Bools.{cases, clash, both, is_false, or_cases, and_left, and_right, not_true, bools}
-use Rattle.sets.specs.Sets.{Set, In, Out, has, single, union, meet, minus, within, full, count, size, lowest, encode}
-use Rattle.sets.proofs.Members.{has_meet, has_union, has_minus, has_single, has_full, has_empty, has_below, union_small, meet_small, minus_small, full_small, encode_has, encode_small, in_within, same_all}
-use Rattle.sets.proofs.Counts.{count_mono, count_same, count_none, count_apart, count_without, without, size_count, size_union, size_empty, size_none}
-use Rattle.sets.proofs.LowestMember.{lowest_in}
+use lib.Dec.{leb}
+use borrow.Author.Tests.{lt-ltb, leb-true, leb-false}
+use Rattle.facts.proofs.Bools.{cases, clash, both, is_false, and_left, and_right, bools}
+use Rattle.sets.specs.Sets.{In, Out, has, single, meet, minus, full, count, size}
+use Rattle.sets.proofs.Members.{has_meet, has_below, minus_small, encode_has}
+use Rattle.sets.proofs.Counts.{count_mono, size_count}
 use Rattle.network.specs.Links.{Links, linked_in}
 use Rattle.split.specs.Split.{good, first_bad, some_below, incoming}
-use Rattle.split.specs.Weak.{outside, weak}
+use Rattle.split.specs.Weak.{outside}
 use Rattle.split.specs.Sources.{sources_to}
 use Rattle.split.proofs.Neighbours.{some_at}
 use Rattle.rules.specs.Rules.{IsReport}
@@ -27,7 +24,7 @@ use Rattle.flow.specs.Search.{lowest_of}
 use Rattle.flow.proofs.Lowest.{size_single, size_less, lowest_of_inside, lowest_of_size}
 use Rattle.planner.specs.Plan.{report_to}
 use Rattle.planner.proofs.WeakSets.{weak_of, weak_meets_weak}
-use Rattle.flow.proofs.Membership.{has_both, has_left, left_has, shared_small, nothing_shared, within_of, has_only, only_out, only_has}
+use Rattle.flow.proofs.Membership.{has_both, has_left, left_has, shared_small, within_of, has_only, only_has}
 use Rattle.planner.proofs.Hitting.{sound_has, has_sound, sound_small}
 
 -- who has a link to a server of F

@@ -2,13 +2,13 @@
 --     count_four         two counts against two others, server by server
 --     outside_sub        outside F, the incoming neighbours of a∩b and of a∪b are together no more than those of a and of b
 -- Assumes nothing.
-use mathlib.Core.Path.{◌≡◌, sym, ap, ◌∙◌}
+use mathlib.Core.Path.{◌≡◌, sym, ◌∙◌}
 use mathlib.Core.Logic.{◌⊎◌, inl, inr, ⊎_elim}
-use mathlib.Core.Bool.{Bool, true, false, cond, not, ◌&&◌, ◌||◌}
+use mathlib.Core.Bool.{true, not, ◌&&◌, ◌||◌}
 use Prim.Native.Nat.{ℕ, ◌+◌, ◌≤◌, ◌<◌}
 use native.Mathlib.Omega.{arith}
-use Rattle.facts.proofs.Bools.{cases, clash, both, or_cases, and_left, and_right, is_false, bools}
-use Rattle.sets.specs.Sets.{Set, In, Out, has, union, meet, count}
+use Rattle.facts.proofs.Bools.{cases, clash, both, or_cases, and_left, and_right, is_false}
+use Rattle.sets.specs.Sets.{Set, has, union, meet, count}
 use Rattle.sets.proofs.Members.{has_union, has_meet}
 use Rattle.sets.proofs.Counts.{count_or, count_mono}
 use Rattle.network.specs.Links.{Links, linked_in}

@@ -3,15 +3,14 @@
 --     weak_meets_weak                    no two weak sets are apart, as they would be the sides of a bad split
 --     shared-weak                        what two sets share is weak, if they meet and their union has enough incoming neighbours
 -- Assumes nothing.
-use mathlib.Core.Path.{◌≡◌, refl, sym, ap, ◌∙◌}
-use mathlib.Core.Bool.{Bool, true, false, cond, not, ◌&&◌}
-use Prim.Native.Nat.{ℕ, ◌+◌, ◌^◌, ◌≤◌, ◌<◌}
-use native.Mathlib.Omega.{arith}
-use lib.Dec.{eqb, ltb, leb}
-use borrow.Author.Tests.{leb-true, le-leb, eq-eqb, eqb-true, eqb-false}
-use Rattle.facts.proofs.Bools.{cases, clash, both, is_false, and_left, and_right, bools}
-use Rattle.sets.specs.Sets.{Set, In, Out, has, union, meet, size}
-use Rattle.sets.proofs.Members.{has_meet, has_union, has_empty, has_below, meet_small, meet_apart, apart_meet}
+use mathlib.Core.Path.{◌≡◌, sym, ap, ◌∙◌}
+use mathlib.Core.Bool.{true, false, ◌&&◌}
+use Prim.Native.Nat.{ℕ, ◌^◌, ◌≤◌, ◌<◌}
+use lib.Dec.{eqb, leb}
+use borrow.Author.Tests.{leb-true, le-leb, eq-eqb, eqb-true}
+use Rattle.facts.proofs.Bools.{cases, clash, is_false, and_left, and_right, bools}
+use Rattle.sets.specs.Sets.{In, Out, has, meet, size}
+use Rattle.sets.proofs.Members.{has_meet, has_empty, meet_small, meet_apart, apart_meet}
 use Rattle.network.specs.Links.{Links}
 use Rattle.split.specs.Split.{good, first_bad}
 use Rattle.split.specs.Weak.{outside, weak}

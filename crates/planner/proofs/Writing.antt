@@ -7,30 +7,29 @@
 -- Assumes nothing.
 use mathlib.Core.Path.{◌≡◌, refl, sym, ap, ap₂, subst, ◌∙◌}
 use mathlib.Core.Logic.{◌⊎◌, inl, inr, ⊎_elim}
-use mathlib.Core.Bool.{Bool, true, false, cond, not, ◌&&◌, ◌||◌}
+use mathlib.Core.Bool.{true, false, not, ◌&&◌, ◌||◌}
 use mathlib.Core.List.Memᴰ
 use mathlib.Core.List.{List, [], ◌∷◌, ◌++◌, map, Memᴰ}
-use Prim.Native.Nat.{ℕ, zero, suc, ◌+◌, ◌-◌, ◌*◌, ◌^◌, ◌≤◌, ◌<◌}
+use Prim.Native.Nat.{ℕ, ◌+◌, ◌-◌, ◌*◌, ◌^◌, ◌≤◌, ◌<◌}
 use native.Mathlib.Omega.{arith}
-use lib.Dec.{eqb, ltb, leb}
-use lib.ListN.{length, get_or, replicate}
-use borrow.Author.Tests.{eqb-true, eqb-false, eq-eqb, ne_eqb, leb-true}
+use lib.Dec.{eqb, ltb}
+use lib.ListN.{length, replicate}
+use borrow.Author.Tests.{eqb-true, eqb-false}
 use Rattle.facts.specs.Lists.{Each}
-use Rattle.facts.proofs.Bools.{cases, clash, both, is_false, and_left, and_right, by_cond, bools}
-use Rattle.sets.specs.Sets.{Set, In, Out, has, single, meet, minus, within, full, count, size}
-use Rattle.sets.proofs.Members.{has_meet, has_minus, has_empty, minus_small, within_in, same_all}
+use Rattle.facts.proofs.Bools.{cases, clash, both, is_false, by_cond, bools}
+use Rattle.sets.specs.Sets.{In, has, single, meet, minus, within, full, count, size}
+use Rattle.sets.proofs.Members.{has_meet, has_empty, within_in, same_all}
 use Rattle.sets.proofs.Counts.{count_none, count_beyond, size_count, size_empty}
 use Rattle.network.specs.Links.{Links, linked_in}
 use Rattle.network.specs.Rows.{rows_of}
 use Rattle.network.specs.Proper.{Proper}
 use Rattle.split.specs.Split.{good, first_bad}
-use Rattle.split.specs.Weak.{outside, weak}
 use Rattle.condition.proofs.Theorem.{good_condition}
 use Rattle.condition.proofs.Wide.{condition_wide}
 use Rattle.condition.proofs.Partitions.{member_of}
 use Rattle.plan.specs.Members.{list_from, members}
 use Rattle.plan.specs.Due.{DueBlock, is_part, due}
-use Rattle.rules.specs.Blocks.{Route, source_of, receiver_of, Report, Block}
+use Rattle.rules.specs.Blocks.{source_of, receiver_of, Report}
 use Rattle.rules.specs.Rules.{IsRoute, AllSeparate, repeated, Fan, sources_for, pairs_of, ends_of, Mesh, IsReport, reports_to, InBlock, InOrder}
 use Rattle.rules.proofs.Lists.{members_in}
 use Rattle.rules.proofs.Groups.{each_cons, each_append, separate_append}
@@ -38,10 +37,10 @@ use Rattle.rules.proofs.Fans.{Different, members_different, in_repeated, map_joi
 use Rattle.rules.proofs.Order.{due_in}
 use Rattle.flow.specs.declared.Sought.{Sought}
 use Rattle.flow.specs.Search.{flow_to}
-use Rattle.flow.specs.Routes.{routes, cut, cut_of, routes_of, separate_routes}
-use Rattle.flow.specs.Theorems.{Found, sought}
+use Rattle.flow.specs.Routes.{separate_routes}
+use Rattle.flow.specs.Theorems.{Found}
 use Rattle.flow.proofs.Finding.{finds}
-use Rattle.flow.proofs.Cutting.{Unreached, lost_weak}
+use Rattle.flow.proofs.Cutting.{lost_weak}
 use Rattle.planner.specs.Choice.{meets_all, side_of, quorum_of}
 use Rattle.planner.specs.Plan.{routes_to, fans_to, mesh_of, report_to, block_with, block_of, plan_of}
 use Rattle.planner.proofs.WeakSets.{weak_of}

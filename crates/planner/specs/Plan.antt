@@ -3,8 +3,8 @@
 --     plan_of n f links        == the blocks of the plan
 --     plan_bytes n f links     == its bytes
 --     plan_length n f          == how many these are, wherever no split is bad
-use Rattle.std.specs.Prelude.{List, [], ◌∷◌, ◌++◌, map, ℕ, zero, suc, ◌+◌, ◌-◌, ◌*◌}
-use Rattle.sets.specs.Sets.{single, union, meet, minus, full, size, lowest}
+use Rattle.std.specs.Prelude.{List, [], ◌∷◌, ◌++◌, map, ℕ, ◌+◌, ◌-◌, ◌*◌}
+use Rattle.sets.specs.Sets.{single, meet, minus, full, size}
 use Rattle.network.specs.Links.{Links, linked_in}
 use Rattle.network.specs.Rows.{rows_of}
 use Rattle.split.specs.Sources.{sources_to}

@@ -7,9 +7,9 @@
 --     Refuses17    a card that is read is refused 17 with a split exactly if the split test reports that split, whatever is lent
 --     Refuses18    of the cards whose split test says "none" those are refused 18 whose plan is longer than what is lent
 --     Unchanged    a refused call leaves every lent byte as it was; Untouched: no call changes one past the plan
-use Rattle.std.specs.Prelude.{◌≡◌, ◌↔◌, ℕ, ◌+◌, ◌≤◌, ◌<◌, length, get_or, take, drop}
-use mathlib.Core.List.{List, Memᴰ}
-use Rattle.refusal.specs.Refused.{Refused, call}
+use Rattle.std.specs.Prelude.{◌≡◌, ◌↔◌, ℕ, ◌+◌, ◌≤◌, ◌<◌, length, take, drop}
+use mathlib.Core.List.{List}
+use Rattle.refusal.specs.Refused.{call}
 use Rattle.sets.specs.Sets.{In, has, size}
 use Rattle.network.specs.Links.{Links}
 use Rattle.network.specs.Card.{network, read_card}
@@ -17,8 +17,8 @@ use Rattle.split.specs.Split.{good, bad, split_test}
 use Rattle.facts.specs.Lists.{Each}
 use Rattle.rules.specs.Blocks.{Block}
 use Rattle.rules.specs.Theorems.{Accepted}
-use Rattle.planner.specs.Plan.{plan_of, plan_bytes, plan_length}
-use Rattle.planner.specs.Write.{Writing, wrote, broken, unwritten, plan_for, write_into, written_in}
+use Rattle.planner.specs.Plan.{plan_of, plan_length}
+use Rattle.planner.specs.Write.{wrote, broken, unwritten, plan_for, write_into, written_in}
 
 abbrev pub Writes : Type 0
 Writes = (card : List ℕ) → split_test card ≡ good → Accepted card (plan_for card)

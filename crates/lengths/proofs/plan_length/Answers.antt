@@ -1,5 +1,4 @@
 -- `lengths::plan_length` meets its contract: the computed table gives every length. Assumes nothing.
-use borrow.Author.Rules.{rules}
 use Rattle.lengths.proofs.Table.{length_at, length_many, length_bound}
 use Rattle.lengths.proofs.plan_length.Goals as goal
 

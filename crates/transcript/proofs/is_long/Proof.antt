@@ -3,8 +3,6 @@ use mathlib.Core.Path.{refl}
 use Rattle.transcript.specs.Text.{is_long}
 use Rattle.transcript.proofs.is_long.Statement.{statement}
 use Rattle.transcript.proofs.is_long.Tie as tie
-use Rattle.transcript.proofs.is_long.Reads as reads
-use Rattle.transcript.proofs.is_long.Lts as lts
 
 returns : tie.Need-returns
 unfolding is_long

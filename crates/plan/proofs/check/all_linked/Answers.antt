@@ -1,13 +1,7 @@
 use mathlib.Core.Path.{◌≡◌}
-use mathlib.Core.Logic.{⊎_elim}
-use Prim.Native.Nat.{◌-◌, ◌≤◌}
 use native.Mathlib.Omega.{arith}
-use borrow.Author.Rules.{rules}
-use Rattle.sets.specs.Sets.{has}
 use Rattle.network.specs.Links.{linked_in}
 use Rattle.network.specs.Rows.{links_of}
-use Rattle.plan.specs.Members.{list_from, members}
-use Rattle.plan.specs.Check.{all_linked}
 use Rattle.plan.proofs.Reports.{row_links, linked_starts, linked_lacks, linked_goes, linked_skips, linked_done}
 use Rattle.plan.proofs.check.all_linked.Goals as goal
 use Rattle.plan.proofs.check.all_linked.Goals.{else-member, then-member+then-member-2}

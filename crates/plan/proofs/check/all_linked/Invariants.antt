@@ -1,16 +1,11 @@
 -- `plan::check::all_linked` meets its contract. The invariant of its loop: what is left of the set gives the answer of the whole (`Reports`).
 -- The measure is how many servers are left. Assumes nothing.
 use mathlib.Core.Path.{◌≡◌}
-use mathlib.Core.Logic.{⊎_elim}
 use Prim.Native.Nat.{◌-◌, ◌≤◌}
-use native.Mathlib.Omega.{arith}
-use borrow.Author.Rules.{rules}
 use Rattle.sets.specs.Sets.{has}
-use Rattle.network.specs.Links.{linked_in}
 use Rattle.network.specs.Rows.{links_of}
 use Rattle.plan.specs.Members.{list_from, members}
 use Rattle.plan.specs.Check.{all_linked}
-use Rattle.plan.proofs.Reports.{row_links, linked_starts, linked_lacks, linked_goes, linked_skips, linked_done}
 use Rattle.plan.proofs.check.all_linked.Given as goal
 
 abbrev pub invariant-loop-m : goal.invariant-loop-m

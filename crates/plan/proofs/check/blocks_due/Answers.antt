@@ -1,8 +1,5 @@
-use mathlib.Core.Logic.{⊎_elim}
-use Prim.Native.Nat.{◌-◌}
 use native.Mathlib.Omega.{arith}
-use Rattle.plan.proofs.Cuts.{full_few, Summed, summed_starts, summed_some, summed_none, summed_ends}
-use borrow.Author.Rules.{rules}
+use Rattle.plan.proofs.Cuts.{full_few, summed_some, summed_none, summed_ends}
 use Rattle.plan.proofs.check.blocks_due.Goals as goal
 use Rattle.plan.proofs.check.blocks_due.Goals.{else-sizes-fault, then-sizes-fault}
 

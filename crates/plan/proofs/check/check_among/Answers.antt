@@ -2,15 +2,14 @@
 use mathlib.Core.Path.{◌≡◌, ap, ◌∙◌}
 use Prim.Native.Nat.{ℕ}
 use native.Mathlib.Omega.{arith}
-use borrow.Author.Rules.{rules}
 use lib.ListN.{length}
 use Rattle.sets.specs.Sets.{minus, full}
 use Rattle.network.specs.Rows.{links_of}
 use Rattle.plan.specs.Members.{members}
-use Rattle.plan.specs.Due.{fan, pairs}
-use Rattle.plan.specs.Check.{Progress, and_then, check_groups, check_reports}
+use Rattle.plan.specs.Due.{pairs}
+use Rattle.plan.specs.Check.{check_groups}
 use Rattle.plan.specs.Answers.{progress_of}
-use Rattle.plan.proofs.Parts.{halts_then, moves_then, sound_is}
+use Rattle.plan.proofs.Parts.{sound_is}
 use Rattle.plan.proofs.Bounds.{pairs_bound, code_bound}
 use Rattle.plan.proofs.check.check_among.Goals as goal
 

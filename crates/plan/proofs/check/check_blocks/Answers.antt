@@ -1,9 +1,5 @@
-use mathlib.Core.Logic.{⊎_elim}
-use Prim.Native.Nat.{◌-◌}
 use native.Mathlib.Omega.{arith}
-use borrow.Author.Rules.{rules}
-use Rattle.network.specs.Rows.{links_of}
-use Rattle.plan.proofs.Plans.{Going, going_starts, going_ends, going_skips, going_halts, going_moves}
+use Rattle.plan.proofs.Plans.{going_starts, going_ends, going_skips, going_halts, going_moves}
 use Rattle.plan.proofs.check.check_blocks.Goals as goal
 use Rattle.plan.proofs.check.check_blocks.Goals.{else-sizes-fault, then-sizes-fault+in-Reached}
 

@@ -1,11 +1,7 @@
 -- `plan::check::check_blocks` meets its contract. The invariant of its loop: the blocks of the fault sets that are left give the answer of all
 -- (`Plans`). The measure is how many numbers are left. Assumes nothing.
-use mathlib.Core.Logic.{⊎_elim}
-use Prim.Native.Nat.{◌-◌}
-use native.Mathlib.Omega.{arith}
-use borrow.Author.Rules.{rules}
 use Rattle.network.specs.Rows.{links_of}
-use Rattle.plan.proofs.Plans.{Going, going_starts, going_ends, going_skips, going_halts, going_moves}
+use Rattle.plan.proofs.Plans.{Going}
 use Rattle.plan.proofs.check.check_blocks.Given as goal
 
 abbrev pub invariant-loop-i : goal.invariant-loop-i

@@ -1,10 +1,8 @@
 use mathlib.Core.Path.{sym, ◌∙◌}
-use mathlib.Core.Logic.{⊎_elim}
-use Prim.Native.Nat.{◌+◌, ◌-◌, ◌*◌, ◌≤◌}
+use Prim.Native.Nat.{◌+◌, ◌*◌, ◌≤◌}
 use native.Mathlib.Omega.{arith}
-use borrow.Author.Rules.{rules}
 use Rattle.network.specs.Rows.{links_of}
-use Rattle.plan.proofs.Steps.{Cutting, cutting_starts, cutting_ends, cutting_skips, PartDue, block_placed, block_halts, block_moves}
+use Rattle.plan.proofs.Steps.{cutting_starts, cutting_ends, cutting_skips, PartDue, block_placed, block_halts, block_moves}
 use Rattle.plan.proofs.check.check_cuts.Goals as goal
 use Rattle.plan.proofs.check.check_cuts.Goals.{else-is_part, then-is_part+in-Reached}
 

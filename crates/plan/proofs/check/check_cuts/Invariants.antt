@@ -1,12 +1,7 @@
 -- `plan::check::check_cuts` meets its contract. The invariant of its loop: the parts that are left give the answer of the whole (`Steps`). The
 -- measure is how many sets are left to look at. Assumes nothing.
-use mathlib.Core.Path.{sym, ◌∙◌}
-use mathlib.Core.Logic.{⊎_elim}
-use Prim.Native.Nat.{◌+◌, ◌-◌, ◌*◌, ◌≤◌}
-use native.Mathlib.Omega.{arith}
-use borrow.Author.Rules.{rules}
 use Rattle.network.specs.Rows.{links_of}
-use Rattle.plan.proofs.Steps.{Cutting, cutting_starts, cutting_ends, cutting_skips, PartDue, block_placed, block_halts, block_moves}
+use Rattle.plan.proofs.Steps.{Cutting}
 use Rattle.plan.proofs.check.check_cuts.Given as goal
 
 abbrev pub invariant-loop-p : goal.invariant-loop-p

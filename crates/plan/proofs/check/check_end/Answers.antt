@@ -3,13 +3,11 @@ use mathlib.Core.Path.{◌≡◌, refl, sym, ◌∙◌}
 use mathlib.Core.Bool.{Bool, true, false}
 use mathlib.Core.List.{List}
 use Prim.Native.Nat.{ℕ, ◌+◌, ◌≤◌, ◌<◌}
-use native.Mathlib.Omega.{arith}
 use lib.ListN.{length, get_or}
 use borrow.Author.Tests.{lt-ltb, le-ltb, eq-eqb, ne_eqb}
 use Rattle.route.specs.Commands.{is_cut}
 use Rattle.plan.specs.Check.{reached, stopped, is_due, check_end}
 use Rattle.plan.proofs.Groups.{whole_command}
-use borrow.Author.Rules.{rules}
 use Rattle.plan.proofs.check.check_end.Goals as goal
 
 module _ (s : List ℕ) (at carriages : ℕ) (b : Bool) (e : b ≡ is_cut s at) where

@@ -1,14 +1,12 @@
 -- `plan::check::check_fan` meets its contract. The invariant of its loop: the receivers that are left give the answer of the whole
 -- (`Lowests`). The measure is how many are left. Assumes nothing.
-use borrow.Author.Rules.{rules}
 use lib.ListN.{length}
 use Rattle.network.specs.Rows.{links_of}
 use Rattle.plan.specs.Members.{members}
 use Rattle.plan.specs.Due.{fan}
 use Rattle.plan.specs.Check.{check_groups}
-use Rattle.plan.proofs.Walks.{fanStep, fan_walk}
-use Rattle.plan.proofs.Bounds.{receiver_bound}
-use Rattle.plan.proofs.Lowests.{Taken, take_lowest, taken_less, Taking, taking_starts, taking_ends, taking_halts, taking_moves}
+use Rattle.plan.proofs.Walks.{fanStep}
+use Rattle.plan.proofs.Lowests.{Taking}
 use Rattle.plan.proofs.check.check_fan.Given as goal
 
 abbrev pub invariant-loop-left : goal.invariant-loop-left

@@ -1,14 +1,11 @@
 -- `plan::check::check_group` meets its contract. The invariant of its loop: what is left of the group gives the answer of the whole. The measure is
 -- how many routes are left. A turn passes three points, `turn`, `due` and `shares`, and at each what is left to test gives that answer (`Groups`).
 -- Assumes nothing.
-use mathlib.Core.Path.{◌≡◌, refl, ◌∙◌}
-use Prim.Native.Nat.{suc, ◌+◌, ◌-◌, ◌≤◌}
-use native.Mathlib.Omega.{arith}
-use borrow.Author.Rules.{rules}
+use mathlib.Core.Path.{◌≡◌}
+use Prim.Native.Nat.{◌-◌, ◌≤◌}
 use Rattle.network.specs.Rows.{links_of}
 use Rattle.plan.specs.Check.{check_group}
 use Rattle.plan.specs.Answers.{group_of}
-use Rattle.plan.proofs.Groups.{Point, FromCommand, FromRoute, FromSharing, group_other, group_due, group_done, route_wrong, route_sound, route_shares, route_apart}
 use Rattle.plan.proofs.check.check_group.Given as goal
 
 abbrev pub invariant-loop-k : goal.invariant-loop-k

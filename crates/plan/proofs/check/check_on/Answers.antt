@@ -1,7 +1,6 @@
 -- `plan::check::check_on` meets its contract. The blocks come first, by the rows of the links, then the end of the plan. Assumes nothing.
 use mathlib.Core.Path.{◌≡◌, ap, ◌∙◌}
 use native.Mathlib.Omega.{arith}
-use borrow.Author.Rules.{rules}
 use Rattle.facts.proofs.Rows.{row_long}
 use Rattle.network.specs.Links.{Links}
 use Rattle.network.specs.Rows.{links_of}

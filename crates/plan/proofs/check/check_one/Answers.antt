@@ -1,8 +1,6 @@
 -- `plan::check::check_one` meets its contract. It passes two points, `start` and `due`, and at each what is left to test gives the answer (`Groups`).
 -- Assumes nothing.
 use mathlib.Core.Path.{refl}
-use native.Mathlib.Omega.{arith}
-use borrow.Author.Rules.{rules}
 use Rattle.route.specs.Commands.{width}
 use Rattle.network.specs.Rows.{links_of}
 use Rattle.plan.specs.Answers.{group_of}

@@ -1,12 +1,7 @@
 use borrow.Author.Rules.{rules}
-use lib.ListN.{length}
-use Rattle.network.specs.Rows.{links_of}
-use Rattle.plan.specs.Members.{members}
-use Rattle.plan.specs.Due.{pairs}
-use Rattle.plan.specs.Check.{check_groups}
 use Rattle.plan.proofs.Walks.{rowStep, pairs_walk}
 use Rattle.plan.proofs.Bounds.{rows_bound}
-use Rattle.plan.proofs.Lowests.{Taken, take_lowest, taken_less, Taking, taking_starts, taking_ends, taking_halts, taking_moves}
+use Rattle.plan.proofs.Lowests.{Taken, take_lowest, taken_less, taking_starts, taking_ends, taking_halts, taking_moves}
 use Rattle.plan.proofs.check.check_pairs.Goals as goal
 
 pub loop-left-init : goal.loop-left-init

@@ -1,14 +1,12 @@
 -- `plan::check::check_pairs` meets its contract. The invariant of its loop: the receivers that are left give the answer of the whole
 -- (`Lowests`). The measure is how many are left. Assumes nothing.
-use borrow.Author.Rules.{rules}
 use lib.ListN.{length}
 use Rattle.network.specs.Rows.{links_of}
 use Rattle.plan.specs.Members.{members}
 use Rattle.plan.specs.Due.{pairs}
 use Rattle.plan.specs.Check.{check_groups}
-use Rattle.plan.proofs.Walks.{rowStep, pairs_walk}
-use Rattle.plan.proofs.Bounds.{rows_bound}
-use Rattle.plan.proofs.Lowests.{Taken, take_lowest, taken_less, Taking, taking_starts, taking_ends, taking_halts, taking_moves}
+use Rattle.plan.proofs.Walks.{rowStep}
+use Rattle.plan.proofs.Lowests.{Taking}
 use Rattle.plan.proofs.check.check_pairs.Given as goal
 
 abbrev pub invariant-loop-left : goal.invariant-loop-left

@@ -3,7 +3,6 @@
 use mathlib.Core.Path.{sym, ap, ◌∙◌}
 use Rattle.network.specs.Answers.{reading_of}
 use Rattle.plan.proofs.Plans.{card_refused, card_few, card_checked}
-use borrow.Author.Rules.{rules}
 use Rattle.plan.proofs.check.check_plan.Goals as goal
 
 pub check_on-requires : goal.check_on-requires

@@ -1,9 +1,6 @@
-use mathlib.Core.Logic.{⊎_elim}
-use Prim.Native.Nat.{◌-◌}
 use native.Mathlib.Omega.{arith}
 use Rattle.network.specs.Rows.{links_of}
-use Rattle.plan.proofs.Reports.{Point, Reporting, FromReport, FromOperands, reports_start, reports_done, reports_skip, reports_due, report_cut, report_inside, report_other, report_here, report_astray, report_wrong, report_sound}
-use borrow.Author.Rules.{rules}
+use Rattle.plan.proofs.Reports.{Point, FromReport, FromOperands, reports_start, reports_done, reports_skip, reports_due, report_cut, report_inside, report_other, report_here, report_astray, report_wrong, report_sound}
 use Rattle.plan.proofs.check.check_reports.Goals as goal
 use Rattle.plan.proofs.check.check_reports.Goals.{else-member, then-member+else-is_cut+else-plan-at-ne20+else-plan-at+then-is_report}
 

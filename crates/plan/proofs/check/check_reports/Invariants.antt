@@ -1,11 +1,7 @@
 -- `plan::check::check_reports` meets its contract. The invariant of its loop: what is left of F gives the answer of the whole (`Reports`). The
 -- measure is how many servers are left. Assumes nothing.
-use mathlib.Core.Logic.{⊎_elim}
-use Prim.Native.Nat.{◌-◌}
-use native.Mathlib.Omega.{arith}
 use Rattle.network.specs.Rows.{links_of}
-use Rattle.plan.proofs.Reports.{Point, Reporting, FromReport, FromOperands, reports_start, reports_done, reports_skip, reports_due, report_cut, report_inside, report_other, report_here, report_astray, report_wrong, report_sound}
-use borrow.Author.Rules.{rules}
+use Rattle.plan.proofs.Reports.{Reporting}
 use Rattle.plan.proofs.check.check_reports.Given as goal
 
 abbrev pub invariant-loop-k : goal.invariant-loop-k

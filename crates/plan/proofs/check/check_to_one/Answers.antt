@@ -1,16 +1,10 @@
 use mathlib.Core.Path.{◌≡◌, sym, ◌∙◌}
-use mathlib.Core.Bool.{false}
 use borrow.Author.Rules.{rules}
-use lib.ListN.{length}
-use Rattle.sets.specs.Sets.{has}
 use Rattle.network.specs.Rows.{links_of}
-use Rattle.plan.specs.Members.{members}
-use Rattle.plan.specs.Due.{to_one}
-use Rattle.plan.specs.Check.{check_groups}
 use Rattle.plan.specs.Answers.{progress_of}
 use Rattle.plan.proofs.Walks.{toOneStep, to_one_walk, to_one_other}
 use Rattle.plan.proofs.Bounds.{to_one_bound}
-use Rattle.plan.proofs.Lowests.{row_others, out_first, out_stays, out_other, Taken, take_lowest, taken_less, Taking, taking_starts, taking_ends, taking_halts, taking_moves}
+use Rattle.plan.proofs.Lowests.{row_others, out_first, out_stays, out_other, Taken, take_lowest, taken_less, taking_starts, taking_ends, taking_halts, taking_moves}
 use Rattle.plan.proofs.check.check_to_one.Goals as goal
 
 pub loop-left-init : goal.loop-left-init

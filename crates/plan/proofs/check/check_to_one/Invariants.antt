@@ -1,18 +1,15 @@
 -- `plan::check::check_to_one` meets its contract. The invariant of its loop: the sources that are left, which the receiver is none of, give the answer of
 -- the whole (`Lowests`). The measure is how many are left. Assumes nothing.
-use mathlib.Core.Path.{◌≡◌, sym, ◌∙◌}
+use mathlib.Core.Path.{◌≡◌}
 use mathlib.Core.Bool.{false}
-use borrow.Author.Rules.{rules}
 use lib.ListN.{length}
 use Rattle.sets.specs.Sets.{has}
 use Rattle.network.specs.Rows.{links_of}
 use Rattle.plan.specs.Members.{members}
 use Rattle.plan.specs.Due.{to_one}
 use Rattle.plan.specs.Check.{check_groups}
-use Rattle.plan.specs.Answers.{progress_of}
-use Rattle.plan.proofs.Walks.{toOneStep, to_one_walk, to_one_other}
-use Rattle.plan.proofs.Bounds.{to_one_bound}
-use Rattle.plan.proofs.Lowests.{row_others, out_first, out_stays, out_other, Taken, take_lowest, taken_less, Taking, taking_starts, taking_ends, taking_halts, taking_moves}
+use Rattle.plan.proofs.Walks.{toOneStep}
+use Rattle.plan.proofs.Lowests.{Taking}
 use Rattle.plan.proofs.check.check_to_one.Given as goal
 
 abbrev pub invariant-loop-left : goal.invariant-loop-left

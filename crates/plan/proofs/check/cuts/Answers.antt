@@ -1,9 +1,5 @@
-use mathlib.Core.Logic.{⊎_elim}
-use Prim.Native.Nat.{◌-◌}
 use native.Mathlib.Omega.{arith}
-use Rattle.plan.specs.Due.{is_part}
-use Rattle.plan.proofs.Cuts.{full_few, Counted, counted_starts, counted_one, counted_none, counted_ends, cuts_are}
-use borrow.Author.Rules.{rules}
+use Rattle.plan.proofs.Cuts.{full_few, counted_one, counted_none, counted_ends, cuts_are}
 use Rattle.plan.proofs.check.cuts.Goals as goal
 use Rattle.plan.proofs.check.cuts.Goals.{else-is_part, then-is_part}
 

@@ -1,8 +1,5 @@
 -- `plan::check::is_part` meets its contract. Assumes nothing.
-use Prim.Native.Nat.{◌-◌}
-use borrow.Author.Rules.{rules}
 use Rattle.plan.proofs.Cuts.{part_outside, part_lacks, part_has}
-use borrow.Author.Rules.{rules}
 use Rattle.plan.proofs.check.is_part.Goals as goal
 
 pub returns-then-member : goal.returns-then-member

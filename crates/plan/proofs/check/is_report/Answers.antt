@@ -1,6 +1,5 @@
 -- `plan::check::is_report` meets its contract. Each test turns one part of the definition (`Reports`). Assumes nothing.
 use Rattle.plan.proofs.Reports.{report_outside, report_few, report_linked}
-use borrow.Author.Rules.{rules}
 use Rattle.plan.proofs.check.is_report.Goals as goal
 
 pub returns-then-size-f : goal.returns-then-size-f

@@ -1,6 +1,5 @@
 -- `plan::check::is_route_due` meets its contract. Assumes nothing.
 use native.Mathlib.Omega.{arith}
-use borrow.Author.Rules.{rules}
 use Rattle.plan.proofs.Groups.{due_short, due_past, due_whole}
 use Rattle.plan.proofs.check.is_route_due.Goals as goal
 
