@@ -4,15 +4,14 @@
 --     adding-..        its start; a route more; a search that finds none; and its end
 -- Assumes nothing.
 use mathlib.Core.Path.{◌≡◌, refl, ap}
-use mathlib.Core.Bool.{true, false, cond}
+use mathlib.Core.Bool.{true, false}
 use mathlib.Core.List.{List}
 use Prim.Native.Nat.{ℕ, suc, ◌+◌, ◌-◌, ◌≤◌, ◌<◌}
-use native.Mathlib.Numerals.{add-one}
 use native.Mathlib.Omega.{arith}
 use Rattle.sets.specs.Sets.{single, meet, minus, size}
 use Rattle.flow.specs.declared.Flow.{Flow}
 use Rattle.flow.specs.declared.Sought.{Sought}
-use Rattle.flow.specs.Search.{straight, lowest_of, with_start, lost, reached, changed, tries, enter, sides, seek, seek_all, last_in, flow_by}
+use Rattle.flow.specs.Search.{straight, lowest_of, with_start, lost, reached, changed, enter, sides, seek, seek_all, last_in, flow_by}
 use Rattle.flow.proofs.Lowest.{lowest_of_few}
 use Rattle.separate.proofs.Trying.{Trying, trying_starts}
 

@@ -6,7 +6,7 @@ use mathlib.Core.Path.{◌≡◌, refl, sym, ap, ◌∙◌}
 use mathlib.Core.List.{List, [], ◌∷◌, ◌++◌}
 use Prim.Native.Nat.{ℕ, ◌+◌, ◌≤◌, ◌<◌}
 use native.Mathlib.Omega.{arith}
-use lib.ListN.{length, set, take, drop, length-append}
+use lib.ListN.{length, set, drop, length-append}
 use borrow.Author.Tests.{lt-ltb, le-ltb}
 use Rattle.refusal.specs.Refused.{Refused, call, refusal_of}
 use Rattle.refusal.specs.declared.Refusal.{Refusal}
@@ -19,7 +19,7 @@ use Rattle.split.specs.Split.{Split, good, bad, unread, first_bad, split_test}
 use Rattle.split.proofs.Heads.{refused_split}
 use Rattle.rules.specs.Blocks.{encode_blocks, encode_plan}
 use Rattle.planner.specs.Plan.{plan_of, plan_bytes, plan_length}
-use Rattle.planner.specs.Write.{Writing, wrote, broken, unwritten, plan_for, fitting, write_on, write_into, after_write, written_in}
+use Rattle.planner.specs.Write.{Writing, wrote, unwritten, plan_for, fitting, write_into, after_write, written_in}
 use Rattle.planner.proofs.Lengths.{plan_exact}
 use Rattle.planner.proofs.Main.{write_on_lem, plan_read, wrote_length, accepts, shortest}
 use Rattle.writer.specs.declared.write.Written.{Written}

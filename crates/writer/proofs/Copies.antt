@@ -6,14 +6,14 @@
 -- Assumes nothing.
 use mathlib.Core.Path.{◌≡◌, refl, sym, ap, ◌∙◌}
 use mathlib.Core.List.{List, [], ◌∷◌, ◌++◌, append-nil}
-use Prim.Native.Nat.{ℕ, zero, suc, ◌+◌, ◌-◌, ◌≤◌, ◌<◌}
+use Prim.Native.Nat.{ℕ, suc, ◌+◌, ◌-◌, ◌≤◌, ◌<◌}
 use native.Mathlib.Omega.{arith}
 use native.Mathlib.Nat.{add-suc}
 use native.Mathlib.Numerals.{add-one, add-two, add-three}
-use lib.ListN.{length, get_or, set, take, drop, length-set, length-take, length-drop, take-append-drop, drop_of_length-le}
-use lib.Seq.{take-suc, length-take-le, get_or-drop, get_or-set_other, take-append_seam, drop-append_seam, drop-set-add, take-set-le, take_all}
+use lib.ListN.{length, get_or, set, take, drop, length-set, length-drop, take-append-drop, drop_of_length-le}
+use lib.Seq.{take-suc, length-take-le, get_or-drop, get_or-set_other, take-append_seam, drop-set-add, take-set-le, take_all}
 use Rattle.facts.specs.Laid.{laid}
-use Rattle.facts.proofs.Stores.{laid_append, length_laid, laid_whole}
+use Rattle.facts.proofs.Stores.{laid_append, laid_whole}
 
 pub laid_front : (at : ℕ) (text l : List ℕ) (q : ℕ) → q < at → get_or (laid at text l) q 0 ≡ get_or l q 0
 unfolding laid

@@ -5,7 +5,7 @@
 use mathlib.Core.Path.{◌≡◌, refl, sym, ap, ap₂, ◌∙◌}
 use mathlib.Core.Logic.{◌⊎◌, inl, inr, ⊎_elim}
 use mathlib.Core.Bool.{Bool, true, false}
-use mathlib.Core.List.{List, [], ◌∷◌, ◌++◌, map}
+use mathlib.Core.List.{List, [], ◌++◌, map}
 use Prim.Native.Nat.{ℕ, zero, suc, ◌+◌, ◌-◌, ◌^◌, ◌≤◌, ◌<◌}
 use native.Mathlib.Omega.{arith}
 use lib.Dec.{eqb}
@@ -15,17 +15,17 @@ use borrow.Author.Tests.{eqb-true, eqb-false}
 use Rattle.facts.proofs.Bools.{cases}
 use Rattle.facts.specs.Laid.{laid}
 use Rattle.facts.proofs.Stores.{laid_append, length_laid}
-use Rattle.sets.specs.Sets.{minus, full, size}
+use Rattle.sets.specs.Sets.{minus, full}
 use Rattle.network.specs.Links.{Links}
 use Rattle.plan.specs.Members.{list_from}
-use Rattle.plan.specs.Due.{DueBlock, is_part, blocks_of, due}
+use Rattle.plan.specs.Due.{DueBlock, is_part, blocks_of}
 use Rattle.plan.proofs.Walks.{list_next, list_skip, list_done}
 use Rattle.rules.specs.Blocks.{encode_block, encode_blocks}
 use Rattle.rules.proofs.Order.{in_due}
 use Rattle.planner.specs.Choice.{side_of, quorum_of}
 use Rattle.planner.specs.Plan.{block_with, block_of, block_length}
 use Rattle.planner.proofs.Lengths.{block_exact}
-use Rattle.writer.specs.Site.{Site, Ready}
+use Rattle.writer.specs.Site.{Ready}
 use Rattle.writer.specs.Bytes.{opening_bytes, body_bytes, cuts_bytes, Stands, Again}
 use Rattle.writer.proofs.Copies.{laid_kept, laid_held}
 use Rattle.writer.proofs.Repeats.{block_split}

@@ -3,10 +3,10 @@
 --     block_new         a block written anew into the part from its place on
 --     block_again       its opening laid, and its body copied, are the block
 -- Assumes nothing.
-use mathlib.Core.Path.{◌≡◌, refl, sym, ap, ap₂, ◌∙◌}
-use mathlib.Core.Logic.{◌⊎◌, inl, inr, ⊎_elim}
+use mathlib.Core.Path.{◌≡◌, refl, sym, ap, ◌∙◌}
+use mathlib.Core.Logic.{◌⊎◌, ⊎_elim}
 use mathlib.Core.List.{List, [], ◌∷◌, ◌++◌}
-use Prim.Native.Nat.{ℕ, ◌+◌, ◌-◌, ◌≤◌, ◌<◌}
+use Prim.Native.Nat.{ℕ, ◌+◌, ◌-◌, ◌≤◌}
 use native.Mathlib.Omega.{arith}
 use lib.ListN.{length, take, drop, length-append}
 use Rattle.facts.specs.Laid.{laid}
@@ -18,8 +18,8 @@ use Rattle.planner.specs.Plan.{block_with}
 use Rattle.blocks.specs.Written.{block_by, BlockPut}
 use Rattle.blocks.proofs.Plan.{block_by_lem}
 use Rattle.writer.specs.Site.{Site}
-use Rattle.writer.specs.Bytes.{opening_bytes, body_bytes, Stands, Again}
-use Rattle.writer.proofs.Copies.{laid_kept, laid_held, part_laid}
+use Rattle.writer.specs.Bytes.{opening_bytes, body_bytes, Stands}
+use Rattle.writer.proofs.Copies.{laid_kept, part_laid}
 
 pub block_split : (n f : ℕ) (links : Links) (F A S : ℕ) → encode_block (block_with n f links F A S) ≡ opening_bytes F A S ++ body_bytes n f links F S
 unfolding encode_block block_with opening_bytes body_bytes

@@ -3,7 +3,7 @@
 --     body_bytes n f links F S   == what follows it, which F and S fix
 --     cuts_bytes n f links F     == the blocks of one F
 --     Again .. from each at lent   <-> no block with this S has been written; or its body stands at `from`, before `at`, and a block has `each` bytes
-use Rattle.std.specs.Prelude.{◌≡◌, ◌⊎◌, List, [], ◌∷◌, map, ℕ, ◌+◌, ◌-◌, ◌^◌, ◌≤◌, length, take, drop}
+use Rattle.std.specs.Prelude.{◌≡◌, ◌⊎◌, List, [], ◌∷◌, map, ℕ, ◌+◌, ◌^◌, ◌≤◌, length, take, drop}
 use Rattle.sets.specs.Sets.{minus, full}
 use Rattle.network.specs.Links.{Links}
 use Rattle.plan.specs.Members.{list_from}

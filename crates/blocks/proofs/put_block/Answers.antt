@@ -1,7 +1,6 @@
 -- `blocks::put_block` meets its contract: the head, the routes of 12, those of 13 and the reports, one after the other, are the bytes of the block
 -- (`block-put`). Assumes nothing.
 use Rattle.blocks.proofs.Texts.{block_put}
-use borrow.Author.Rules.{rules}
 use Rattle.blocks.proofs.put_block.Goals as goal
 
 pub returns : goal.returns

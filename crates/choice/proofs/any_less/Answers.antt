@@ -1,7 +1,5 @@
-use Prim.Native.Nat.{◌-◌}
 use native.Mathlib.Omega.{arith}
-use borrow.Author.Rules.{rules}
-use Rattle.choice.proofs.Filled.{Passing, passing_starts, passing_goes, passing_hits, passing_ends}
+use Rattle.choice.proofs.Filled.{passing_hits, passing_ends}
 use Rattle.choice.proofs.any_less.Goals as goal
 
 pub returns-then-less_at : goal.returns-then-less_at

@@ -1,9 +1,6 @@
 -- `choice::any_less` meets its contract. The invariant of its loop, `Passing`: no server below x can be left out. The measure is what is left of the
 -- eight. Assumes nothing.
-use Prim.Native.Nat.{◌-◌}
-use native.Mathlib.Omega.{arith}
-use borrow.Author.Rules.{rules}
-use Rattle.choice.proofs.Filled.{Passing, passing_starts, passing_goes, passing_hits, passing_ends}
+use Rattle.choice.proofs.Filled.{Passing}
 use Rattle.choice.proofs.any_less.Given as goal
 
 abbrev pub invariant-loop-x : goal.invariant-loop-x

@@ -1,5 +1,4 @@
 -- `choice::choose` meets its contract: its tests and quorums, in the order of the definition. Assumes nothing.
-use borrow.Author.Rules.{rules}
 use Rattle.choice.proofs.Choosing.{choice_lower, choice_rest, choice_part, choice_other}
 use Rattle.choice.proofs.choose.Goals as goal
 

@@ -1,5 +1,4 @@
 -- `choice::meets_all` meets its contract: the table marks what the set leaves exactly if the set misses a weak set. Assumes nothing.
-use borrow.Author.Rules.{rules}
 use Rattle.choice.proofs.Choosing.{meets_not, meets_so}
 use Rattle.choice.proofs.meets_all.Goals as goal
 

@@ -1,7 +1,5 @@
-use Prim.Native.Nat.{◌-◌}
 use native.Mathlib.Omega.{arith}
-use borrow.Author.Rules.{rules}
-use Rattle.choice.proofs.Choosing.{Thinning, thinning_starts, thinning_turn, thinning_ends}
+use Rattle.choice.proofs.Choosing.{thinning_starts, thinning_turn, thinning_ends}
 use Rattle.choice.proofs.quorum.Goals as goal
 
 pub loop-i-init : goal.loop-i-init

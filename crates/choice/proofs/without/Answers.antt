@@ -1,5 +1,4 @@
 -- `choice::without` meets its contract: x is taken out if it is in the set and the rest of the set meets every weak set. Assumes nothing.
-use borrow.Author.Rules.{rules}
 use Rattle.choice.proofs.Choosing.{without_none, without_needed, without_free}
 use Rattle.choice.proofs.without.Goals as goal
 

@@ -1,6 +1,5 @@
-use Prim.Native.Nat.{◌-◌}
 use native.Mathlib.Omega.{arith}
-use Rattle.load.proofs.Counting.{Adding, adding_starts, adding_stops, adding_room, adding_goes, adding_ends}
+use Rattle.load.proofs.Counting.{adding_stops, adding_goes, adding_ends}
 use borrow.Author.Rules.{rules}
 use Rattle.load.proofs.add_relays.Goals as goal
 

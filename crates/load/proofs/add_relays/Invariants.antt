@@ -1,9 +1,6 @@
 -- `load::add_relays` meets its contract. The invariant of its loop, `Adding`: the counts and what is still to come make up the counts of the whole. The
 -- measure is how many bytes are left. Assumes nothing.
-use Prim.Native.Nat.{◌-◌}
-use native.Mathlib.Omega.{arith}
-use Rattle.load.proofs.Counting.{Adding, adding_starts, adding_stops, adding_room, adding_goes, adding_ends}
-use borrow.Author.Rules.{rules}
+use Rattle.load.proofs.Counting.{Adding}
 use Rattle.load.proofs.add_relays.Given as goal
 
 abbrev pub invariant-loop-k : goal.invariant-loop-k

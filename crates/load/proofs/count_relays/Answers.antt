@@ -1,10 +1,6 @@
 use mathlib.Core.Path.{sym, ◌∙◌}
-use Prim.Native.Nat.{◌-◌}
 use native.Mathlib.Omega.{arith}
-use lib.ListN.{length}
-use borrow.Author.Tests.{not-true, not-false}
-use Rattle.load.proofs.Counting.{Counting, counting_starts, counting_ends, Here, here_inside, here_wide, here_goes, Routed, routed_fits, routed_asks, routed_goes}
-use borrow.Author.Rules.{rules}
+use Rattle.load.proofs.Counting.{counting_ends, Here, here_inside, here_wide, here_goes, Routed, routed_fits, routed_asks, routed_goes}
 use Rattle.load.proofs.count_relays.Goals as goal
 
 pub bounds-plan-at : goal.bounds-plan-at

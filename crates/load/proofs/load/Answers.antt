@@ -1,7 +1,6 @@
 -- `load::load` meets its contract. The plan check's refusal is the answer's, and the counts of an accepted plan are its load (`Answering`). Assumes
 -- nothing.
 use Rattle.load.proofs.Answering.{answer_refused, answer_counted}
-use borrow.Author.Rules.{rules}
 use Rattle.load.proofs.load.Goals as goal
 
 -- the card or the plan is refused

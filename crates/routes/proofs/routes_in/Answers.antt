@@ -1,6 +1,5 @@
 -- `routes::routes_in` meets its contract: the tests and the search of the definition, in its order. Assumes nothing.
 use mathlib.Core.Path.{refl, sym, ◌∙◌}
-use borrow.Author.Rules.{rules}
 use Rattle.routes.proofs.Calling.{fits_receiver}
 use Rattle.routes.proofs.Answering.{answer_routes, answer_cut, answer_unfit}
 use Rattle.routes.proofs.routes_in.Goals as goal

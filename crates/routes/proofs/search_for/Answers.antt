@@ -1,5 +1,4 @@
 -- `routes::search_for` meets its contract: its sets are those of the definition (`search_is`). Assumes nothing.
-use borrow.Author.Rules.{rules}
 use Rattle.routes.proofs.Calling.{search_is}
 use Rattle.routes.proofs.search_for.Goals as goal
 

@@ -1,6 +1,5 @@
 -- `routes::separate_routes` meets its contract: the card reader gives the refusal, or a proper network, in which the routes are sought. Assumes nothing.
 use mathlib.Core.Path.{sym, ap, ◌∙◌}
-use borrow.Author.Rules.{rules}
 use Rattle.network.specs.Answers.{reading_of}
 use Rattle.network.proofs.Heads.{head_proper}
 use Rattle.routes.proofs.Answering.{answered_refused, answered_network}

@@ -1,8 +1,7 @@
 use mathlib.Core.List.{◌∷◌}
-use Prim.Native.Nat.{◌-◌}
 use native.Mathlib.Omega.{arith}
 use Rattle.blocks.specs.Written.{Put}
-use Rattle.blocks.proofs.Putting.{Laying, put_join, put_long, laying_starts, laying_goes, laying_ends}
+use Rattle.blocks.proofs.Putting.{put_join, laying_starts, laying_goes, laying_ends}
 use borrow.Author.Rules.{rules}
 use Rattle.blocks.proofs.bytes.put_cut.Goals as goal
 

@@ -1,10 +1,9 @@
 use mathlib.Core.Path.{refl}
 use mathlib.Core.List.{◌∷◌}
-use Prim.Native.Nat.{◌+◌, ◌-◌, ◌≤◌}
 use native.Mathlib.Omega.{arith}
-use lib.ListN.{length, length-set}
+use lib.ListN.{length-set}
 use Rattle.blocks.specs.Written.{Put}
-use Rattle.blocks.proofs.Putting.{Laying, put_stored, put_join, put_long, laying_starts, laying_goes, laying_room, laying_ends}
+use Rattle.blocks.proofs.Putting.{put_stored, put_join, laying_starts, laying_goes, laying_ends}
 use borrow.Author.Rules.{rules}
 use Rattle.blocks.proofs.bytes.put_whole.Goals as goal
 

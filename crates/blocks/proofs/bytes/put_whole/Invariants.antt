@@ -1,13 +1,8 @@
 -- `blocks::bytes::put_whole` meets its contract. The invariant of its loop: the bytes of the route before i are put after the command (`Laying`), and
 -- there is room for all eight. The measure is how many are left. Assumes nothing.
-use mathlib.Core.Path.{refl}
-use mathlib.Core.List.{◌∷◌}
-use Prim.Native.Nat.{◌+◌, ◌-◌, ◌≤◌}
-use native.Mathlib.Omega.{arith}
-use lib.ListN.{length, length-set}
-use Rattle.blocks.specs.Written.{Put}
-use Rattle.blocks.proofs.Putting.{Laying, put_stored, put_join, put_long, laying_starts, laying_goes, laying_room, laying_ends}
-use borrow.Author.Rules.{rules}
+use Prim.Native.Nat.{◌+◌, ◌≤◌}
+use lib.ListN.{length}
+use Rattle.blocks.proofs.Putting.{Laying}
 use Rattle.blocks.proofs.bytes.put_whole.Given as goal
 
 abbrev pub invariant-loop-i : goal.invariant-loop-i

@@ -1,8 +1,6 @@
-use Prim.Native.Nat.{◌-◌}
 use native.Mathlib.Omega.{arith}
-use Rattle.blocks.proofs.Putting.{Going, put_long, going_starts, going_on, going_past, going_ends}
-use Rattle.blocks.proofs.Texts.{report_text, report_is, reports_text}
-use borrow.Author.Rules.{rules}
+use Rattle.blocks.proofs.Putting.{going_starts, going_on, going_past, going_ends}
+use Rattle.blocks.proofs.Texts.{report_is, reports_text}
 use Rattle.blocks.proofs.reports.put_reports.Goals as goal
 
 pub loop-k-init : goal.loop-k-init

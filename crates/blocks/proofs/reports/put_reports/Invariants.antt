@@ -1,10 +1,8 @@
 -- `blocks::reports::put_reports` meets its contract. The invariant of its loop: the reports to the servers of F before k are put (`Going`). The measure
 -- is how many servers are left. Assumes nothing.
 use Prim.Native.Nat.{◌-◌}
-use native.Mathlib.Omega.{arith}
-use Rattle.blocks.proofs.Putting.{Going, put_long, going_starts, going_on, going_past, going_ends}
-use Rattle.blocks.proofs.Texts.{report_text, report_is, reports_text}
-use borrow.Author.Rules.{rules}
+use Rattle.blocks.proofs.Putting.{Going}
+use Rattle.blocks.proofs.Texts.{report_text}
 use Rattle.blocks.proofs.reports.put_reports.Given as goal
 
 abbrev pub invariant-loop-k : goal.invariant-loop-k

@@ -1,8 +1,6 @@
-use Prim.Native.Nat.{◌-◌}
 use native.Mathlib.Omega.{arith}
-use Rattle.blocks.proofs.Putting.{Going, put_long, going_starts, going_on, going_past, going_ends}
-use Rattle.blocks.proofs.Texts.{fan_text, fan_is, fans_text}
-use borrow.Author.Rules.{rules}
+use Rattle.blocks.proofs.Putting.{going_starts, going_on, going_past, going_ends}
+use Rattle.blocks.proofs.Texts.{fan_is, fans_text}
 use Rattle.blocks.proofs.routes.put_fans.Goals as goal
 
 pub loop-r-init : goal.loop-r-init

@@ -1,10 +1,8 @@
 -- `blocks::routes::put_fans` meets its contract. The invariant of its loop: the routes to the receivers before r are put (`Going`). The measure is how
 -- many servers are left. Assumes nothing.
 use Prim.Native.Nat.{◌-◌}
-use native.Mathlib.Omega.{arith}
-use Rattle.blocks.proofs.Putting.{Going, put_long, going_starts, going_on, going_past, going_ends}
-use Rattle.blocks.proofs.Texts.{fan_text, fan_is, fans_text}
-use borrow.Author.Rules.{rules}
+use Rattle.blocks.proofs.Putting.{Going}
+use Rattle.blocks.proofs.Texts.{fan_text}
 use Rattle.blocks.proofs.routes.put_fans.Given as goal
 
 abbrev pub invariant-loop-r : goal.invariant-loop-r

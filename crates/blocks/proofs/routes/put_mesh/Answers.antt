@@ -1,8 +1,6 @@
-use Prim.Native.Nat.{◌-◌}
 use native.Mathlib.Omega.{arith}
-use Rattle.blocks.proofs.Putting.{Going, put_long, going_starts, going_on, going_past, going_ends}
-use Rattle.blocks.proofs.Texts.{one_text, one_is, mesh_text}
-use borrow.Author.Rules.{rules}
+use Rattle.blocks.proofs.Putting.{going_starts, going_on, going_past, going_ends}
+use Rattle.blocks.proofs.Texts.{one_is, mesh_text}
 use Rattle.blocks.proofs.routes.put_mesh.Goals as goal
 
 pub loop-r-init : goal.loop-r-init

@@ -1,8 +1,6 @@
-use Prim.Native.Nat.{◌-◌}
 use native.Mathlib.Omega.{arith}
-use Rattle.blocks.proofs.Putting.{Going, put_long, going_starts, going_on, going_past, going_ends}
-use Rattle.blocks.proofs.Texts.{route_text, route_is, routes_text}
-use borrow.Author.Rules.{rules}
+use Rattle.blocks.proofs.Putting.{going_starts, going_on, going_past, going_ends}
+use Rattle.blocks.proofs.Texts.{route_is, routes_text}
 use Rattle.blocks.proofs.routes.put_routes.Goals as goal
 
 pub loop-x-init : goal.loop-x-init

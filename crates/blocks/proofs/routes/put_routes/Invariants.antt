@@ -1,10 +1,8 @@
 -- `blocks::routes::put_routes` meets its contract. The invariant of its loop: the routes that start before x are put (`Going`). The measure is how many
 -- servers are left. Assumes nothing.
 use Prim.Native.Nat.{◌-◌}
-use native.Mathlib.Omega.{arith}
-use Rattle.blocks.proofs.Putting.{Going, put_long, going_starts, going_on, going_past, going_ends}
-use Rattle.blocks.proofs.Texts.{route_text, route_is, routes_text}
-use borrow.Author.Rules.{rules}
+use Rattle.blocks.proofs.Putting.{Going}
+use Rattle.blocks.proofs.Texts.{route_text}
 use Rattle.blocks.proofs.routes.put_routes.Given as goal
 
 abbrev pub invariant-loop-x : goal.invariant-loop-x

@@ -1,8 +1,6 @@
-use Prim.Native.Nat.{◌-◌}
 use native.Mathlib.Omega.{arith}
-use Rattle.blocks.proofs.Putting.{Going, put_long, going_starts, going_on, going_past, going_ends}
-use Rattle.blocks.proofs.Texts.{pair_text, pair_is, one_text_lem}
-use borrow.Author.Rules.{rules}
+use Rattle.blocks.proofs.Putting.{going_starts, going_on, going_past, going_ends}
+use Rattle.blocks.proofs.Texts.{pair_is, one_text_lem}
 use Rattle.blocks.proofs.routes.put_to_one.Goals as goal
 
 pub loop-s-init : goal.loop-s-init

@@ -1,10 +1,8 @@
 -- `blocks::routes::put_to_one` meets its contract. The invariant of its loop: the routes from the sources before s are put (`Going`). The measure is how
 -- many servers are left. Assumes nothing.
 use Prim.Native.Nat.{◌-◌}
-use native.Mathlib.Omega.{arith}
-use Rattle.blocks.proofs.Putting.{Going, put_long, going_starts, going_on, going_past, going_ends}
-use Rattle.blocks.proofs.Texts.{pair_text, pair_is, one_text_lem}
-use borrow.Author.Rules.{rules}
+use Rattle.blocks.proofs.Putting.{Going}
+use Rattle.blocks.proofs.Texts.{pair_text}
 use Rattle.blocks.proofs.routes.put_to_one.Given as goal
 
 abbrev pub invariant-loop-s : goal.invariant-loop-s

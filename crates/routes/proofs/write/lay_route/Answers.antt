@@ -1,7 +1,5 @@
-use Prim.Native.Nat.{◌-◌}
-use native.Mathlib.Omega.{arith}
 use borrow.Author.Rules.{rules}
-use Rattle.routes.proofs.Laying.{Bytes, bytes_start, bytes_turn, bytes_end}
+use Rattle.routes.proofs.Laying.{bytes_turn, bytes_end}
 use Rattle.routes.proofs.write.lay_route.Goals as goal
 
 pub loop-i-preserved : goal.loop-i-preserved

@@ -1,9 +1,6 @@
 -- `routes::write::lay_route` meets its contract. The invariant of its loop, `Bytes`: to lay the bytes left over what is there gives the whole. The measure is
 -- how many bytes are left. Assumes nothing.
-use Prim.Native.Nat.{◌-◌}
-use native.Mathlib.Omega.{arith}
-use borrow.Author.Rules.{rules}
-use Rattle.routes.proofs.Laying.{Bytes, bytes_start, bytes_turn, bytes_end}
+use Rattle.routes.proofs.Laying.{Bytes}
 use Rattle.routes.proofs.write.lay_route.Given as goal
 
 abbrev pub invariant-loop-i : goal.invariant-loop-i

@@ -1,7 +1,6 @@
-use Prim.Native.Nat.{◌+◌, ◌-◌, ◌≤◌}
+use Prim.Native.Nat.{◌+◌, ◌≤◌}
 use lib.ListN.{length}
-use borrow.Author.Rules.{rules}
-use Rattle.routes.proofs.Laying.{Routes, routes_start, routes_room, routes_go, routes_skip, routes_end}
+use Rattle.routes.proofs.Laying.{routes_start, routes_room, routes_go, routes_skip, routes_end}
 use Rattle.routes.proofs.write.lay_routes.Goals as goal
 
 pub loop-x-init : goal.loop-x-init

@@ -1,9 +1,7 @@
 -- `routes::write::lay_routes` meets its contract. The invariant of its loop, `Routes`: to lay the routes left over what is there gives the whole. The measure
 -- is how many servers are left. Assumes nothing.
-use Prim.Native.Nat.{◌+◌, ◌-◌, ◌≤◌}
-use lib.ListN.{length}
-use borrow.Author.Rules.{rules}
-use Rattle.routes.proofs.Laying.{Routes, routes_start, routes_room, routes_go, routes_skip, routes_end}
+use Prim.Native.Nat.{◌-◌}
+use Rattle.routes.proofs.Laying.{Routes}
 use Rattle.routes.proofs.write.lay_routes.Given as goal
 
 abbrev pub invariant-loop-x : goal.invariant-loop-x

@@ -1,7 +1,5 @@
 -- `routes::write::write_routes` meets its contract: the routes are laid where there is room for them. Assumes nothing.
-use mathlib.Core.Path.{refl}
-use borrow.Author.Rules.{rules}
-use Rattle.routes.proofs.Answering.{written_short, written_room, written_so, written_bytes}
+use Rattle.routes.proofs.Answering.{written_room, written_so, written_bytes}
 use Rattle.routes.proofs.write.write_routes.Goals as goal
 
 pub lay_routes-requires : goal.lay_routes-requires

@@ -3,8 +3,6 @@ use mathlib.Core.Path.{refl}
 use Rattle.flow.specs.Search.{lost}
 use Rattle.separate.proofs.changes.lost.Statement.{statement}
 use Rattle.separate.proofs.changes.lost.Tie as tie
-use Rattle.separate.proofs.changes.lost.Reads as reads
-use Rattle.separate.proofs.changes.lost.Lts as lts
 
 returns : tie.Need-returns
 unfolding lost

@@ -1,7 +1,6 @@
 -- `separate::changes::started` meets its contract: the test is the definition's, and what was found gets the flow that `with_start` ensures. Assumes nothing.
 use mathlib.Core.Path.{refl}
 use Rattle.flow.specs.Search.{reached, changed}
-use borrow.Author.Rules.{rules}
 use Rattle.separate.proofs.changes.started.Goals as goal
 
 pub returns-then-s : goal.returns-then-s

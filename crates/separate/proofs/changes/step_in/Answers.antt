@@ -1,7 +1,6 @@
 -- `separate::changes::step_in` meets its contract: the test is the definition's, and each side is what its callee ensures. Assumes nothing.
 use borrow.Author.Tests.{eq-eqb, ne_eqb}
 use Rattle.flow.specs.Search.{step_in}
-use borrow.Author.Rules.{rules}
 use Rattle.separate.proofs.changes.step_in.Goals as goal
 
 pub returns-then-q-x : goal.returns-then-q-x

@@ -1,7 +1,6 @@
 -- `separate::changes::step_out` meets its contract: the test is the definition's, and each side is what its callee ensures. Assumes nothing.
 use borrow.Author.Tests.{eq-eqb, ne_eqb}
 use Rattle.flow.specs.Search.{step_out}
-use borrow.Author.Rules.{rules}
 use Rattle.separate.proofs.changes.step_out.Goals as goal
 
 pub returns-then-y-x : goal.returns-then-y-x

@@ -1,7 +1,6 @@
 -- `separate::changes::stepped_in` meets its contract: the test is the definition's, and what was found gets the flow that `step_in` ensures. Assumes nothing.
 use mathlib.Core.Path.{refl}
 use Rattle.flow.specs.Search.{reached, changed}
-use borrow.Author.Rules.{rules}
 use Rattle.separate.proofs.changes.stepped_in.Goals as goal
 
 pub returns-then-s : goal.returns-then-s

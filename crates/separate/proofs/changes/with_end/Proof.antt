@@ -4,10 +4,6 @@ use Rattle.flow.specs.Search.{with_end}
 use borrow.Author.Rules.{rules}
 use Rattle.separate.proofs.changes.with_end.Statement.{statement}
 use Rattle.separate.proofs.changes.with_end.Tie as tie
-use Rattle.separate.proofs.changes.with_end.Reads as reads
-use Rattle.separate.proofs.changes.with_end.Lts as lts
-use Rattle.sets.proofs.single.Reads as single-Reads
-use Rattle.sets.proofs.union.Reads as union-reads
 
 single-requires : tie.Need-single-requires
 single-requires c κs = search rules

@@ -4,10 +4,6 @@ use Rattle.flow.specs.Search.{with_start}
 use borrow.Author.Rules.{rules}
 use Rattle.separate.proofs.changes.with_start.Statement.{statement}
 use Rattle.separate.proofs.changes.with_start.Tie as tie
-use Rattle.separate.proofs.changes.with_start.Reads as reads
-use Rattle.separate.proofs.changes.with_start.Lts as lts
-use Rattle.sets.proofs.single.Reads as single-Reads
-use Rattle.sets.proofs.union.Reads as union-reads
 
 single-requires : tie.Need-single-requires
 single-requires c κs = search rules

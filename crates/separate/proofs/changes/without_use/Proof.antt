@@ -4,10 +4,6 @@ use Rattle.flow.specs.Search.{without_use}
 use borrow.Author.Rules.{rules}
 use Rattle.separate.proofs.changes.without_use.Statement.{statement}
 use Rattle.separate.proofs.changes.without_use.Tie as tie
-use Rattle.separate.proofs.changes.without_use.Reads as reads
-use Rattle.separate.proofs.changes.without_use.Lts as lts
-use Rattle.sets.proofs.minus.Reads as minus-reads
-use Rattle.sets.proofs.single.Reads as single-Reads
 
 single-requires : tie.Need-single-requires
 single-requires c κs = search rules

@@ -1,7 +1,5 @@
-use Prim.Native.Nat.{◌-◌}
 use native.Mathlib.Omega.{arith}
-use borrow.Author.Rules.{rules}
-use Rattle.separate.proofs.Taking.{Taking, taking_starts, taking_turn, taking_ends}
+use Rattle.separate.proofs.Taking.{taking_starts, taking_turn, taking_ends}
 use Rattle.separate.proofs.lowest.lowest_of.Goals as goal
 
 pub loop-k-init : goal.loop-k-init

@@ -1,9 +1,6 @@
 -- `separate::lowest::lowest_of` meets its contract. The invariant of its loop, `Taking`: those taken, with the lowest of what is left, are the lowest of the whole.
 -- The measure is how many are left to take. Assumes nothing.
-use Prim.Native.Nat.{◌-◌}
-use native.Mathlib.Omega.{arith}
-use borrow.Author.Rules.{rules}
-use Rattle.separate.proofs.Taking.{Taking, taking_starts, taking_turn, taking_ends}
+use Rattle.separate.proofs.Taking.{Taking}
 use Rattle.separate.proofs.lowest.lowest_of.Given as goal
 
 abbrev pub invariant-loop-k : goal.invariant-loop-k

@@ -1,4 +1,4 @@
-use Rattle.std.proofs.Common.{◌≡◌, ◌-◌, ◌∙◌, ℕ, ap, arith}
+use Rattle.std.proofs.Common.{◌-◌, ◌∙◌, ℕ, ap, arith}
 use Rattle.sets.specs.Sets.{has, union}
 use Rattle.separate.proofs.Trying.{trying_found, trying_fails, trying_passes, trying_ends}
 use Rattle.separate.proofs.Ways.{Entering, enter_none, enter_seen, enter_goes, enter_ends, Leaving, leave_none, leave_ends, leave_tries}

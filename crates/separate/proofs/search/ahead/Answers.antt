@@ -1,7 +1,6 @@
 -- `separate::search::ahead` meets its contract: what its callees ensure, one put into the other. Assumes nothing.
 use mathlib.Core.Path.{refl}
 use Rattle.flow.specs.Search.{ahead}
-use borrow.Author.Rules.{rules}
 use Rattle.separate.proofs.search.ahead.Goals as goal
 
 pub returns : goal.returns

@@ -1,7 +1,4 @@
-use Prim.Native.Nat.{◌-◌}
-use Rattle.flow.specs.Search.{flow_by}
-use Rattle.separate.proofs.Adding.{Adding, adding_starts, adding_on, adding_ends, adding_done}
-use borrow.Author.Rules.{rules}
+use Rattle.separate.proofs.Adding.{adding_starts, adding_on, adding_ends, adding_done}
 use Rattle.separate.proofs.search.flow_to.Goals as goal
 
 pub loop-k-init : goal.loop-k-init

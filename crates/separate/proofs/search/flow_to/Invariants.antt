@@ -1,9 +1,7 @@
 -- `separate::search::flow_to` meets its contract. The invariant of its loop: what the routes still to be sought give is what the whole gives. The measure
 -- is how many these are. Assumes nothing.
-use Prim.Native.Nat.{◌-◌}
 use Rattle.flow.specs.Search.{flow_by}
-use Rattle.separate.proofs.Adding.{Adding, adding_starts, adding_on, adding_ends, adding_done}
-use borrow.Author.Rules.{rules}
+use Rattle.separate.proofs.Adding.{Adding}
 use Rattle.separate.proofs.search.flow_to.Given as goal
 
 abbrev pub invariant-loop-k : goal.invariant-loop-k

@@ -1,7 +1,5 @@
-use Prim.Native.Nat.{◌-◌}
 use Rattle.separate.proofs.Trying.{trying_found, trying_fails, trying_passes, trying_ends}
-use Rattle.separate.proofs.Adding.{TryingSources, seek_tries}
-use borrow.Author.Rules.{rules}
+use Rattle.separate.proofs.Adding.{seek_tries}
 use Rattle.separate.proofs.search.seek.Goals as goal
 
 pub loop-x-init : goal.loop-x-init

@@ -1,9 +1,7 @@
 -- `separate::search::seek` meets its contract. The invariant of its loop: nothing is found so far, and what the rest of the sources give is what the
 -- whole gives. The measure is what is left of the eight. Assumes nothing.
 use Prim.Native.Nat.{◌-◌}
-use Rattle.separate.proofs.Trying.{trying_found, trying_fails, trying_passes, trying_ends}
-use Rattle.separate.proofs.Adding.{TryingSources, seek_tries}
-use borrow.Author.Rules.{rules}
+use Rattle.separate.proofs.Adding.{TryingSources}
 use Rattle.separate.proofs.search.seek.Given as goal
 
 abbrev pub invariant-loop-x : goal.invariant-loop-x

@@ -1,6 +1,5 @@
 -- `separate::sides::behind` meets its contract: the test is the definition's, and so is what stands on each side. Assumes nothing.
 use Rattle.separate.proofs.Scans.{behind_back, behind_through}
-use borrow.Author.Rules.{rules}
 use Rattle.separate.proofs.sides.behind.Goals as goal
 
 pub returns-then-member : goal.returns-then-member

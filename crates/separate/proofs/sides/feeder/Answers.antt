@@ -1,8 +1,5 @@
-use mathlib.Core.Path.{refl}
-use Prim.Native.Nat.{◌-◌, ◌≤◌}
 use native.Mathlib.Omega.{arith}
-use Rattle.separate.proofs.Scans.{Feeding, feeding_starts, feeding_found, feeding_on, feeding_none}
-use borrow.Author.Rules.{rules}
+use Rattle.separate.proofs.Scans.{feeding_starts, feeding_found, feeding_on, feeding_none}
 use Rattle.separate.proofs.sides.feeder.Goals as goal
 
 pub loop-p-init : goal.loop-p-init

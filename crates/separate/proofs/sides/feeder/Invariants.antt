@@ -1,10 +1,7 @@
 -- `separate::sides::feeder` meets its contract. The invariant of its loop: the search from p on gives what the whole gives. The measure is what is left
 -- of the eight. Assumes nothing.
-use mathlib.Core.Path.{refl}
-use Prim.Native.Nat.{◌-◌, ◌≤◌}
-use native.Mathlib.Omega.{arith}
-use Rattle.separate.proofs.Scans.{Feeding, feeding_starts, feeding_found, feeding_on, feeding_none}
-use borrow.Author.Rules.{rules}
+use Prim.Native.Nat.{◌≤◌}
+use Rattle.separate.proofs.Scans.{Feeding}
 use Rattle.separate.proofs.sides.feeder.Given as goal
 
 abbrev pub invariant-loop-p : goal.invariant-loop-p

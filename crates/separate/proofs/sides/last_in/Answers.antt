@@ -1,7 +1,6 @@
 -- `separate::sides::last_in` meets its contract: the test is the definition's, and what its callees ensure is put together. Assumes nothing.
 use mathlib.Core.Path.{refl, sym, ◌∙◌}
 use Rattle.flow.specs.Search.{last_in}
-use borrow.Author.Rules.{rules}
 use Rattle.separate.proofs.sides.last_in.Goals as goal
 
 pub returns-then-member : goal.returns-then-member

@@ -1,7 +1,5 @@
-use Prim.Native.Nat.{◌-◌, ◌≤◌}
 use native.Mathlib.Omega.{arith}
-use Rattle.separate.proofs.Laying.{Laying, laying_starts, laying_ends, laying_goes, laying_full}
-use borrow.Author.Rules.{rules}
+use Rattle.separate.proofs.Laying.{laying_starts, laying_ends, laying_goes, laying_full}
 use Rattle.separate.proofs.trail.operand.Goals as goal
 
 pub loop-i-init : goal.loop-i-init

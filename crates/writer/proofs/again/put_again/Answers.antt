@@ -1,7 +1,5 @@
-use Prim.Native.Nat.{◌-◌}
 use native.Mathlib.Omega.{arith}
-use borrow.Author.Rules.{rules}
-use Rattle.writer.proofs.Copies.{Copying, copying_starts, copying_turn, copying_ends}
+use Rattle.writer.proofs.Copies.{copying_starts, copying_turn}
 use Rattle.writer.proofs.again.put_again.Goals as goal
 
 pub loop-i-init : goal.loop-i-init

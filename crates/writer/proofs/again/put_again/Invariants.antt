@@ -1,9 +1,6 @@
 -- `writer::again::put_again` meets its contract. The invariant of its loop, `Copying`: so many bytes are laid; those that are read stand before them and
 -- are as they were. The measure is how many are left. Assumes nothing.
-use Prim.Native.Nat.{◌-◌}
-use native.Mathlib.Omega.{arith}
-use borrow.Author.Rules.{rules}
-use Rattle.writer.proofs.Copies.{Copying, copying_starts, copying_turn, copying_ends}
+use Rattle.writer.proofs.Copies.{Copying}
 use Rattle.writer.proofs.again.put_again.Given as goal
 
 abbrev pub invariant-loop-i : goal.invariant-loop-i

@@ -1,7 +1,4 @@
 -- `writer::again::put_opening` meets its contract: four stores, one after the other. Assumes nothing.
-use native.Mathlib.Omega.{arith}
-use lib.ListN.{length-set}
-use borrow.Author.Rules.{rules}
 use Rattle.writer.proofs.Copies.{opening_laid}
 use Rattle.writer.proofs.again.put_opening.Goals as goal
 

@@ -1,15 +1,10 @@
-use mathlib.Core.Path.{◌≡◌, refl, sym, ap, ◌∙◌}
-use Prim.Native.Nat.{ℕ, ◌+◌, ◌-◌, ◌≤◌, ◌<◌}
-use native.Mathlib.Omega.{arith}
-use lib.ListN.{length}
+use mathlib.Core.Path.{refl, sym, ap, ◌∙◌}
+use Prim.Native.Nat.{ℕ}
 use borrow.Author.Rules.{rules}
-use Rattle.network.specs.Links.{Links}
 use Rattle.plan.specs.Due.{is_part}
 use Rattle.plan.proofs.Cuts.{full_few}
 use Rattle.plan.proofs.Parts.{sound_is}
-use Rattle.writer.specs.Site.{Ready}
-use Rattle.writer.specs.Bytes.{cuts_bytes}
-use Rattle.writer.proofs.Cutting.{Cutting, cutting_starts, cutting_ends, cutting_skips, cutting_again, cutting_ready, cutting_sums, cutting_fits, cutting_turn}
+use Rattle.writer.proofs.Cutting.{cutting_starts, cutting_ends, cutting_skips, cutting_again, cutting_ready, cutting_fits, cutting_turn}
 use Rattle.writer.proofs.cuts.put_cuts.Goals as goal
 
 pub loop-p-init : goal.loop-p-init

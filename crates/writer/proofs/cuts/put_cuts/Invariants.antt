@@ -1,17 +1,11 @@
 -- `writer::cuts::put_cuts` meets its contract. The invariant of its loop is `Cutting`, for every network that the tables stand for; the measure is how many
 -- numbers are left. Assumes nothing.
-use mathlib.Core.Path.{◌≡◌, refl, sym, ap, ◌∙◌}
-use Prim.Native.Nat.{ℕ, ◌+◌, ◌-◌, ◌≤◌, ◌<◌}
-use native.Mathlib.Omega.{arith}
+use Prim.Native.Nat.{◌+◌, ◌-◌, ◌≤◌}
 use lib.ListN.{length}
-use borrow.Author.Rules.{rules}
 use Rattle.network.specs.Links.{Links}
-use Rattle.plan.specs.Due.{is_part}
-use Rattle.plan.proofs.Cuts.{full_few}
-use Rattle.plan.proofs.Parts.{sound_is}
 use Rattle.writer.specs.Site.{Ready}
 use Rattle.writer.specs.Bytes.{cuts_bytes}
-use Rattle.writer.proofs.Cutting.{Cutting, cutting_starts, cutting_ends, cutting_skips, cutting_again, cutting_ready, cutting_sums, cutting_fits, cutting_turn}
+use Rattle.writer.proofs.Cutting.{Cutting}
 use Rattle.writer.proofs.cuts.put_cuts.Given as goal
 
 abbrev pub invariant-loop-p : goal.invariant-loop-p

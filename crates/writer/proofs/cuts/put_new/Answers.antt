@@ -1,5 +1,4 @@
 -- `writer::cuts::put_new` meets its contract: what `put_block` lays at the front of the part stands at the part's place in the buffer. Assumes nothing.
-use borrow.Author.Rules.{rules}
 use Rattle.writer.proofs.Repeats.{block_new}
 use Rattle.writer.proofs.cuts.put_new.Goals as goal
 

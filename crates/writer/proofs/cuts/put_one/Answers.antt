@@ -1,8 +1,7 @@
 -- `writer::cuts::put_one` meets its contract: a block that is written anew is what `put_new` ensures; else its opening is laid and its body copied from
 -- where it stands (`Repeats`). Assumes nothing.
-use mathlib.Core.Path.{◌≡◌, refl, sym, ap, ◌∙◌}
+use mathlib.Core.Path.{ap, ◌∙◌}
 use native.Mathlib.Omega.{arith}
-use borrow.Author.Rules.{rules}
 use lib.ListN.{length}
 use Rattle.facts.proofs.Stores.{length_laid}
 use Rattle.writer.proofs.Repeats.{block_again, other}

@@ -1,6 +1,5 @@
 -- `writer::parts::is_part` meets its contract: each test is one of the definition's. Assumes nothing.
 use Rattle.plan.proofs.Cuts.{part_outside, part_lacks, part_has}
-use borrow.Author.Rules.{rules}
 use Rattle.writer.proofs.parts.is_part.Goals as goal
 
 pub returns-then-member : goal.returns-then-member

@@ -1,14 +1,6 @@
-use mathlib.Core.Path.{◌≡◌, refl, sym, ap, ◌∙◌}
-use Prim.Native.Nat.{ℕ, ◌+◌, ◌-◌, ◌≤◌, ◌<◌}
-use native.Mathlib.Omega.{arith}
-use lib.ListN.{length}
-use borrow.Author.Rules.{rules}
-use Rattle.network.specs.Links.{Links}
 use Rattle.plan.proofs.Cuts.{full_few}
-use Rattle.rules.specs.Blocks.{encode_blocks}
-use Rattle.planner.specs.Plan.{plan_of}
 use Rattle.writer.specs.Site.{Site}
-use Rattle.writer.proofs.Faulting.{Faulting, faulting_starts, faulting_ends, faulting_skips, faulting_room, faulting_turn, few_of, many_of, fault_of}
+use Rattle.writer.proofs.Faulting.{faulting_starts, faulting_ends, faulting_skips, faulting_room, faulting_turn, few_of, many_of, fault_of}
 use Rattle.writer.proofs.write.put_blocks.Goals as goal
 
 pub loop-i-init : goal.loop-i-init

@@ -1,16 +1,12 @@
 -- `writer::write::put_blocks` meets its contract. The invariant of its loop is `Faulting`, for every network that the rows stand for; the measure is how
 -- many sets are left. Assumes nothing.
-use mathlib.Core.Path.{◌≡◌, refl, sym, ap, ◌∙◌}
-use Prim.Native.Nat.{ℕ, ◌+◌, ◌-◌, ◌≤◌, ◌<◌}
-use native.Mathlib.Omega.{arith}
+use Prim.Native.Nat.{◌-◌, ◌≤◌}
 use lib.ListN.{length}
-use borrow.Author.Rules.{rules}
 use Rattle.network.specs.Links.{Links}
-use Rattle.plan.proofs.Cuts.{full_few}
 use Rattle.rules.specs.Blocks.{encode_blocks}
 use Rattle.planner.specs.Plan.{plan_of}
 use Rattle.writer.specs.Site.{Site}
-use Rattle.writer.proofs.Faulting.{Faulting, faulting_starts, faulting_ends, faulting_skips, faulting_room, faulting_turn, few_of, many_of, fault_of}
+use Rattle.writer.proofs.Faulting.{Faulting}
 use Rattle.writer.proofs.write.put_blocks.Given as goal
 
 abbrev pub invariant-loop-i : goal.invariant-loop-i

@@ -1,9 +1,7 @@
 use mathlib.Core.Path.{refl}
-use Prim.Native.Nat.{◌-◌}
 use native.Mathlib.Omega.{arith}
-use borrow.Author.Rules.{rules}
 use Rattle.plan.proofs.Cuts.{full_few}
-use Rattle.choice.proofs.Filled.{Filling, filling_starts, filling_turn, filling_falls, filling_ends}
+use Rattle.choice.proofs.Filled.{filling_starts, filling_turn, filling_falls, filling_ends}
 use Rattle.writer.proofs.Faulting.{ready_of}
 use Rattle.writer.proofs.write.put_fault.Goals as goal
 

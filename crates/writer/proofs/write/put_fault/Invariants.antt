@@ -1,12 +1,7 @@
 -- `writer::write::put_fault` meets its contract. The invariant of its loop, `Filling`: the entries of the sets apart from F before this one are made. The
 -- measure is what is left of the sets of servers. Assumes nothing.
-use mathlib.Core.Path.{refl}
 use Prim.Native.Nat.{◌-◌}
-use native.Mathlib.Omega.{arith}
-use borrow.Author.Rules.{rules}
-use Rattle.plan.proofs.Cuts.{full_few}
-use Rattle.choice.proofs.Filled.{Filling, filling_starts, filling_turn, filling_falls, filling_ends}
-use Rattle.writer.proofs.Faulting.{ready_of}
+use Rattle.choice.proofs.Filled.{Filling}
 use Rattle.writer.proofs.write.put_fault.Given as goal
 
 abbrev pub invariant-loop-next : goal.invariant-loop-next

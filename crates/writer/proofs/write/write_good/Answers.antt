@@ -1,6 +1,5 @@
 -- `writer::write::write_good` meets its contract: the plan has as many bytes as `plan_length` says, so the blocks and the end are the plan. Assumes nothing.
 use mathlib.Core.Path.{refl}
-use borrow.Author.Rules.{rules}
 use Rattle.writer.proofs.Answered.{short_written, blocks_room, end_room, room_written}
 use Rattle.writer.proofs.write.write_good.Goals as goal
 

@@ -2,7 +2,6 @@
 -- network has no bad split. Assumes nothing.
 use mathlib.Core.Path.{sym, ap, ◌∙◌}
 use mathlib.Core.List.{[]}
-use borrow.Author.Rules.{rules}
 use Rattle.network.specs.Answers.{reading_of}
 use Rattle.network.proofs.Heads.{network_is, head_proper}
 use Rattle.split.specs.Answers.{split_answer_of}
