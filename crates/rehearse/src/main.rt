@@ -2,7 +2,7 @@
 // transcript of the run. A file that is not there counts as empty.
 #![tactic(auto)]
 
-ghost use Rattle.std.specs.Prelude.{◌≤◌, length, OnOk};
+ghost use Rattle.std.specs.Prelude.{◌≡◌, ◌≤◌, length, take, OnOk};
 ghost use Rattle.std.specs.Io.KnownBytes.{Appends};
 ghost use Rattle.transcript.specs.Text.{transcript};
 
@@ -28,7 +28,7 @@ fn read_full(file: &mut impl Read, buf: &mut [u8]) -> usize
 // The file's bytes at the start of the buffer; answers how many there are. One byte more than a
 // file may have is read, so that a file that is too long is seen to be.
 fn read_file(rt: &impl Files, path: &str, buf: &mut [u8; 65537]) -> usize
-    ensures { result ≤ length buf.new }
+    ensures { (result ≤ length buf.new) × (result ≡ length (take result buf.new)) }
 {
     match fs::open(rt, path) {
         Ok(mut file) => read_full(&mut file, &mut *buf),
