@@ -11,9 +11,16 @@
 # The functions that `cycle` names, with spaces between them, may reach each other: their allowance
 # falls at each call, so that no more than `allowance` + 1 of them are open at a time. They need as
 # many times the largest of their frames, and the deepest of the functions outside the cycle.
+#
+# The functions that `outside` names are of the C library: each needs `room` bytes.
 BEGIN {
     count = split(cycle, names, " ")
     for (n = 1; n <= count; n++) member[names[n]] = 1
+    count = split(outside, names, " ")
+    for (n = 1; n <= count; n++) {
+        frame[names[n]] = 0
+        known[names[n]] = room
+    }
 }
 function wrong(where, what) {
     print "stack: " where ": " what

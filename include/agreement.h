@@ -4,8 +4,8 @@
  * run, and a server's own part in a live network.
  *
  * The library is written in Rattle and proved: every function below meets the contract that is
- * written above it, for all arguments. It allocates nothing, keeps no state and calls nothing, so
- * any number of threads may call it at the same time.
+ * written above it, for all arguments. It allocates nothing, keeps no state and calls nothing but
+ * memset of the C library, so any number of threads may call it at the same time.
  *
  * What a caller hands over
  *
@@ -176,11 +176,12 @@ enum {
 
 /*
  * The bytes of stack that a call needs at most. The frames along the calls in the archive add up to
- * 10,960 bytes at the deepest, in agreement_write_plan: the search for separate routes calls itself,
- * with an allowance that falls at each call, and the bound counts as many frames as the allowance
- * has. agreement_separate_routes needs nearly as much, the other calls a sixth of it or less. No call
- * on the example sites or on damaged versions of them was measured to use more. `sh tools/stack`
- * does both again, for each call.
+ * 7,088 bytes at the deepest, in agreement_write_plan: with them goes what a first call of memset
+ * may take of the stack. The search for separate routes calls itself, with an allowance that falls
+ * at each call, and the bound counts as many frames as the allowance has. agreement_separate_routes
+ * needs half as much, the other calls a fifth of it or less. No call on the example sites or on
+ * damaged versions of them was measured to use more. `sh tools/stack` does both again, for each
+ * call.
  */
 #define AGREEMENT_STACK 12288
 

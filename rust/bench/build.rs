@@ -32,17 +32,31 @@ fn main() {
     println!("cargo:rustc-cfg=before");
 }
 
-/// Has a copy of the archive linked in which every name has the prefix.
+/// Has a copy of the archive linked in which every name has the prefix, but for that of the
+/// one function of the C library that the archive calls.
 fn renamed(archive: &Path, prefix: &str, out: &Path) {
     println!("cargo:rerun-if-changed={}", archive.display());
-    let objcopy = Command::new("objcopy")
-        .arg(format!("--prefix-symbols={prefix}_"))
-        .arg("--set-section-alignment=.text.*=64")
-        .arg(archive)
-        .arg(out.join(format!("lib{prefix}.a")))
-        .status();
-    match objcopy {
-        Ok(status) if status.success() => println!("cargo:rustc-link-lib=static={prefix}"),
+    let copy = out.join(format!("lib{prefix}.a"));
+    objcopy(
+        Command::new("objcopy")
+            .arg(format!("--prefix-symbols={prefix}_"))
+            .arg("--set-section-alignment=.text.*=64")
+            .arg(archive)
+            .arg(&copy),
+        archive,
+    );
+    objcopy(
+        Command::new("objcopy")
+            .arg(format!("--redefine-sym={prefix}_memset=memset"))
+            .arg(&copy),
+        &copy,
+    );
+    println!("cargo:rustc-link-lib=static={prefix}");
+}
+
+fn objcopy(command: &mut Command, archive: &Path) {
+    match command.status() {
+        Ok(status) if status.success() => (),
         Ok(_) => refuse(&format!("objcopy cannot copy {}", archive.display())),
         Err(why) => refuse(&format!("objcopy of GNU binutils does not start: {why}")),
     }

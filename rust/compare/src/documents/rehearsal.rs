@@ -26,7 +26,7 @@ const UNTOUCHED: u8 = 0xa5;
 pub fn numbers_are_proved() {
     let definition = Page::read("crates/transcript/specs/Text.antt");
     let held = definition.says_all(&[
-        format!("isLong file = ltb {FILE_LIMIT} (length file)"),
+        format!("is_long file = ltb {FILE_LIMIT} (length file)"),
         format!("let lent : List ℕ = replicate {LENT} 0 in"),
     ]);
     held.unwrap_or_else(|fault| panic!("{fault}"));
