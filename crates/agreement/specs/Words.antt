@@ -30,7 +30,7 @@ pub record QuickWords (card words : List ℕ) : Type 0 where
   pub answer : words ≡ quick_words (quick_test card)
   pub agrees : (n least : ℕ) → (words ≡ 0 ∷ 1 ∷ n ∷ least ∷ [] → split_test card ≡ good) × (words ≡ 0 ∷ 0 ∷ n ∷ least ∷ [] → split_test card ≡ good → ⊥)
 
--- the words of the plan check; `showsGood` and `showsWide` are what those of an accepted plan say of the card
+-- the words of the plan check; `shows_good` and `shows_wide` are what those of an accepted plan say of the card
 pub record PlanWords (card plan words : List ℕ) : Type 0 where
   pub answer : words ≡ plan_words (check_plan card plan)
   pub shows_good : (blocks carriages : ℕ) → words ≡ 0 ∷ blocks ∷ carriages ∷ 0 ∷ [] → split_test card ≡ good

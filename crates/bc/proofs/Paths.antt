@@ -5,7 +5,7 @@
 --     clear_one       of f + 1 paths that are apart one has no server of X, if X has at most f
 --     all_are_each     if all of a list are a, each is
 --     agreed_cases    a property of ⊥ and of an element of a list is one of what the list agrees on
---     arrives_clear   on a path without a server of X the source's value arrives; source-out: its source is not in X
+--     arrives_clear   on a path without a server of X the source's value arrives; source_out: its source is not in X
 --     agreed_clear    a property of ⊥ and of every sound server's value is one of what f + 1 paths agree on
 -- Assumes nothing.
 use mathlib.Core.Path.{◌≡◌, refl, sym, ◌∙◌, subst}

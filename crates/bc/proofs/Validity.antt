@@ -1,6 +1,6 @@
 -- Validity of Algorithm BC. Each step, block and list of blocks keeps a property Q that the values of all sound servers have; t may also be ⊥.
 --     sure                              a bit that has Q or is ⊥ has Q
---     propagate_keeps, equality_keeps   the steps on t, for a property of ⊥ too; spread-keeps: Equality, then Propagate
+--     propagate_keeps, equality_keeps   the steps on t, for a property of ⊥ too; spread_keeps: Equality, then Propagate
 --     adopt_keeps, step_j_keeps          the steps on v, where ⊥ does not enter
 --     case1_keeps, case2_keeps          the two cases of a block
 --     block_keeps, bc_keeps             a block, and a list of blocks

@@ -1,5 +1,5 @@
 -- The card reader gives what the card says, and nothing else is said: a card that is read is its head, whole links and the end, from the front on
--- (`front-said`), and a card of these is read (`Whole`). Assumes nothing.
+-- (`front_said`), and a card of these is read (`Whole`). Assumes nothing.
 use mathlib.Core.Path.{◌≡◌, refl, sym, ap, ◌∙◌}
 use mathlib.Core.Logic.{◌⊎◌, inl, inr}
 use mathlib.Core.Bool.{true, false}

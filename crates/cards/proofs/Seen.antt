@@ -1,4 +1,4 @@
--- Cards that are read as one network are alike to every call, since a call takes from a card what `readCard` gives and nothing else.
+-- Cards that are read as one network are alike to every call, since a call takes from a card what `read_card` gives and nothing else.
 -- Assumes nothing.
 use mathlib.Core.Path.{◌≡◌, refl, sym, ap, ◌∙◌}
 use mathlib.Core.List.{List}

@@ -1,8 +1,8 @@
 -- Where the routes and reports of a block stand in its bytes, for the block of an opening command that the code has read.
 --     fault_is, ..      F, A and S of the decoded block
---     block_inward      the routes of 11; block_among, block_outward, block-reports: the others
+--     block_inward      the routes of 11; block_among, block_outward, block_reports: the others
 --     inward_long       how many there are
---     block_bytes       how many bytes the block takes; block-fits: they are there
+--     block_bytes       how many bytes the block takes; block_fits: they are there
 --     inward_servers    the routes name servers
 --     reports_few       there are at most eight reports
 -- Assumes nothing.

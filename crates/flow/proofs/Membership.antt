@@ -1,7 +1,7 @@
 -- Members of sets that are made of others.
 --     has_both, has_left, left_has   members of what two sets share, and of what is left of one without the other
 --     has_only, only_out, only_has   the members of a set of one server
---     nothing_shared, within_of      from members to numbers; shared-small: what two sets share is no larger a number
+--     nothing_shared, within_of      from members to numbers; shared_small: what two sets share is no larger a number
 -- Assumes nothing.
 use mathlib.Core.Path.{◌≡◌, refl, sym, ◌∙◌}
 use mathlib.Core.Bool.{true, not, ◌&&◌}

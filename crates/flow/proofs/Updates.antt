@@ -1,7 +1,7 @@
 -- What the changes of a flow change: one server or one step at a time, in tests and in numbers.
 --     count_put, count_drop      one member more, or one less, is one more or one less in the count
 --     has_put, has_drop          a set with one server more, and with one less; one_put and one_drop in numbers, count_start in its size
---     step_put, step_drop        the steps with one more, and with one less; step_long, unstep-long: eight rows as before
+--     step_put, step_drop        the steps with one more, and with one less; step_long, unstep_long: eight rows as before
 --     into_put, into_drop        how many steps lead to a server then; from_put and from_drop, how many lead from it
 -- Each equation names the server or the step by a test for equality, so that sums of them are closed by arithmetic. Assumes nothing.
 use mathlib.Core.Path.{◌≡◌, refl, sym, ap, ◌∙◌}

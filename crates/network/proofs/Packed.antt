@@ -1,5 +1,5 @@
 -- Eight marks as the number of the marked servers, the way the code goes: a word with a byte for each mark, brought side by side. One test over the
--- 256 rows that eight marks can make is computed (`all-packed`) and holds of each row (`every-at`).
+-- 256 rows that eight marks can make is computed (`all_packed`) and holds of each row (`every_at`).
 --     packed l     == what the code makes of the marks l
 --     packed_is    it is the number of the marked servers
 -- Assumes nothing.

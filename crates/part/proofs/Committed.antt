@@ -1,8 +1,8 @@
 -- One kind of a block: with v and t as in the run, and arrivals that are what the sources gave, each server's commit gives the run's v and t.
 -- In 11 the sources give v where the run has them send the t of after step 1: they are in A, where step 1 sets t to v.
---     commit_11        the commit of 11 is steps 1 and 2; commit-12: step 3; commit-13: steps 4 and 5; commit-14: step 6
+--     commit_11        the commit of 11 is steps 1 and 2; commit_12: step 3; commit_13: steps 4 and 5; commit_14: step 6
 --     committed_small  a commit leaves v at most 1 and t at most 2, whatever arrives
---     arrivals         what arrives is what the run's carriages bring, with what each server gave as its value; inward-heard: in 11 with step 1 taken
+--     arrivals         what arrives is what the run's carriages bring, with what each server gave as its value; inward_heard: in 11 with step 1 taken
 --     inward_kind      so the four kinds of a block within the rules; among_kind, outward_kind, reports_kind
 -- Assumes nothing.
 use mathlib.Core.Path.{◌≡◌, refl, sym, ap, ◌∙◌}

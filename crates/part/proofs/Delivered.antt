@@ -1,7 +1,7 @@
 -- What reaches a server over a turn is what it hears in the run. All that a source gives in one kind is one value, repeated, so that of its row nothing
--- counts but that a value is left for each of its later carriages: `delivered-heard` goes by induction on the carriages, and `used-given` keeps this.
+-- counts but that a value is left for each of its later carriages: `delivered_heard` goes by induction on the carriages, and `used_given` keeps this.
 --     given_first      a source gives its value for its first carriage
---     used_given       and one for each later carriage after that; given-long: it gives at most one for each carriage
+--     used_given       and one for each later carriage after that; given_long: it gives at most one for each carriage
 --     received_cons    a byte in front moves the later ones by one place
 --     message_given    what a sound way brings is what the source gave
 --     heard_sources    what is heard depends on what the sources hold

@@ -1,5 +1,5 @@
 -- Servers stepped side by side go through the turns together, each with the run's v and t. `Standing` says where all of them are: at one kind of one
--- block, with no ask open. `turn-stands` is one turn: no ask and no commit is refused, and each commit gives the run's values. The rest is induction on
+-- block, with no ask open. `turn_stands` is one turn: no ask and no commit is refused, and each commit gives the run's values. The rest is induction on
 -- the turns.
 --     answer_is      what each server's ask in a turn answers; turn_is: where its commit leaves it
 --     turn_stands    so one turn leads all servers from its kind to the next

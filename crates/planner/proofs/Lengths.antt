@@ -1,7 +1,7 @@
 -- How long a plan is.
 --     fan_length, mesh_length    how many routes the kinds of a block have, from its F, A and S
 --     block_least                no block within the rules is shorter than one whose S is f + 1 servers within A
---     plan_least                 so no plan within the rules is shorter than `planLength`
+--     plan_least                 so no plan within the rules is shorter than `plan_length`
 --     plan_exact                 the plan that is written is just so long, where no split is bad
 --     length_few                 and that is within a plan's limit
 -- A block has s (s − 1) routes of 12 and (m − s)(f + 1) of 13 for s servers in S and m in V−F; s is at least f + 1, and there (s − 1)(s − f − 1) is not

@@ -5,7 +5,7 @@
 --     quorum_joined     a set with a server of the quorum and without an incoming neighbour outside F has all of the quorum
 -- For each server x of the quorum there is a weak set Rx that has no other server of it. Joining these sets one after the other, each takes one
 -- incoming neighbour at least away: what the sets so far share with the next is not empty, as weak sets meet, and has no server of the quorum, so
--- it is not weak and has more than f incoming neighbours; by `outside-sub` the union has fewer than before. So there are at most f + 1 of them.
+-- it is not weak and has more than f incoming neighbours; by `outside_sub` the union has fewer than before. So there are at most f + 1 of them.
 -- Assumes nothing.
 use mathlib.Core.Path.{◌≡◌, refl, sym, ap, ◌∙◌}
 use mathlib.Core.Logic.{◌⊎◌, inl, inr, ⊎_elim}

@@ -1,5 +1,5 @@
 -- Routes laid over the lent bytes, one after the other.
---     operands_long                  a route takes eight bytes; routes_long, routes-many: so many have the routes of a flow
+--     operands_long                  a route takes eight bytes; routes_long, routes_many: so many have the routes of a flow
 --     bytes-..                       the loop over the bytes of a route: to lay the bytes left over what is there gives the whole
 --     routes-..                      the loop over the starts of a flow: to lay the routes left over what is there gives the whole
 -- Assumes nothing.

@@ -1,5 +1,5 @@
 -- The steps of a block on sets of servers, from what the code's parts give.
---     has_replaced   the members of a set that is replaced inside another; has-alike: of the servers whose arrivals are alike
+--     has_replaced   the members of a set that is replaced inside another; has_alike: of the servers whose arrivals are alike
 --     step1_is       step 1 as its contract has it; step2_is, step3_is, step4_is, step5_is, step6_is
 --     gathered_is    the common values taken by all receivers, as the contract has it
 -- Assumes nothing.

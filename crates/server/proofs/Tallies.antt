@@ -1,6 +1,6 @@
 -- How many carriages of a list a server sends on, and how many come to it, each as the number of routes or reports that pass a test.
 --     tally              how many of a list pass a test
---     given_routes       the carriages over routes that a server sends on; received-routes: that come to it
+--     given_routes       the carriages over routes that a server sends on; received_routes: that come to it
 --     given_reports      the reports that it gives: one for each command that has it among the reporters
 --     received_reports   the reports that come to it: as many as a command has reporters, for each that has it as receiver
 -- Assumes nothing.

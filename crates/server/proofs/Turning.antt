@@ -1,5 +1,5 @@
 -- The grounds of a call and the answer where there is none, as the code meets them.
---     site_card, ..       card and plan as the code checks them; site-open: what an accepted plan is to the code
+--     site_card, ..       card and plan as the code checks them; site_open: what an accepted plan is to the code
 --     value-.., values-.. what a server sends; filling-..: the loop that lays it down
 --     commit_is           the commit of a kind, by the sets that the opening command fixes
 --     start-..            the grounds of a start

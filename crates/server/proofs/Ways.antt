@@ -2,7 +2,7 @@
 --     opened_to       so many blocks are whole: so are fewer
 --     Way, way-..     the loop from block to block
 --     way_ends        the block is reached
---     here_ready      the block is ready to be gone through; here-is: it is the decoded one
+--     here_ready      the block is ready to be gone through; here_is: it is the decoded one
 -- Assumes nothing.
 use mathlib.Core.Path.{◌≡◌, refl, sym, ap, ◌∙◌}
 use mathlib.Core.List.{List}

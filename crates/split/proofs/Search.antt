@@ -83,6 +83,6 @@ first_from_bad (suc k) lo p F L C R e =
               cases (eqb lo i) (λ q. let z = eqb-true lo i q in cc) (λ q. let z = eqb-false lo i q in l.before i (omega arith) d);
         }
 
--- the test of badAt: F, L and R make a split, and it is bad
+-- the test of bad_at: F, L and R make a split, and it is bad
 abbrev pub breaks : ℕ → ℕ → Links → ℕ → ℕ → ℕ → Bool
 breaks n f links F L R = is_split f F L R && is_bad n f links L (rest n F L R) R

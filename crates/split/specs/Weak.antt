@@ -1,5 +1,5 @@
 -- What makes the split test fast. In a split, L∪C is V−F−R, so whether L∪C holds at most f incoming neighbours of R depends on F and R alone;
--- in the same way for L. So a set is weak for F or not, and a split is bad exactly if L and R are both weak (`Weakness.split-weak`).
+-- in the same way for L. So a set is weak for F or not, and a split is bad exactly if L and R are both weak (`Weakness.split_weak`).
 --     outside n links F s    == how many incoming neighbours of s there are outside F
 --     weak n f links F s     == s can be a side of a bad split: not empty, apart from F, at most f incoming neighbours outside F
 use Rattle.std.specs.Prelude.{Bool, not, ◌&&◌, ℕ, eqb, leb}

@@ -4,7 +4,7 @@
 --     to_length       there are as many paths to r as carriages to r
 --     chosen_fan      the routes of a fan to one of its receivers are f + 1 disjoint paths
 --     chosen_mesh     a mesh has a path from each server of S to each other
---     chosen_few      F has at most f servers; chosen-side: A has a server and so has B, and those of A are of V − F; chosen_quorum likewise for S
+--     chosen_few      F has at most f servers; chosen_side: A has a server and so has B, and those of A are of V − F; chosen_quorum likewise for S
 --     chosen_inward   the paths of Propagate(A, S − A); chosen_outward those of Propagate(S, V − F − S)
 --     chosen_between  the paths of Equality(S); chosen_reports the members of N_k
 --     chosen_allowed  the choices of the block are such as the algorithm allows

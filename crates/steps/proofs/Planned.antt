@@ -2,7 +2,7 @@
 --     due_in          a due block has an F of at most f servers and a part of V − F that holds its lowest server
 --     choice_in       each choice is that of one of the blocks; in_choices the other way
 --     choices_append  the choices of two lists of blocks, one after the other
---     planned_allowed the choices are such as the algorithm allows; planned-sound: so they are sound
+--     planned_allowed the choices are such as the algorithm allows; planned_sound: so they are sound
 --     blocks_cover    the choices of blocks with F = X that have every cut cover every cut
 --     planned_covers  the choices with F = X stand together and cover every cut
 --     planned_grouped the same for every test X, with none of the others in between

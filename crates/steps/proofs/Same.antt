@@ -4,16 +4,16 @@
 --     heard_arrives     what a receiver hears is what arrives on the paths to it
 --     all_all_are        "all are x", in the words of either side
 --     common_agreed     the common value of some values, each 0, 1 or 2, is what they agree on
---     read_small        a byte is read as 0, 1 or 2; message-small: so a message is one of these; arrives-small: so is what arrives if every held value is; spoiled-small: on the paths of a plan
+--     read_small        a byte is read as 0, 1 or 2; message_small: so a message is one of these; arrives_small: so is what arrives if every held value is; spoiled_small: on the paths of a plan
 --     arrives_each      a property of what arrives on each path is one of each arrival
 --     arrivals_same     what arrives depends on what the sources hold
 --     gathered          the common value of f + 1 arrivals is what they agree on
---     sources_pick      the sources of the paths to r; pick-pairs: in a mesh they are the others of S
---     in_others         any other than r is among the others; others_in the other way; others-different: none stands twice
---     from_member       the path from a source is one of the paths; from-own: it is the only one from there
+--     sources_pick      the sources of the paths to r; pick_pairs: in a mesh they are the others of S
+--     in_others         any other than r is among the others; others_in the other way; others_different: none stands twice
+--     from_member       the path from a source is one of the paths; from_own: it is the only one from there
 --     all_others        the arrivals from all others of S are those on the paths, one from each
---     routes_start      every route has a source; reports-start: so has every report
---     gather_at         steps 2 and 4 are Propagate; compare-at: step 3 is Equality; step5-at: step 5 is (d) and (i); step6-at: step 6 is (j)
+--     routes_start      every route has a source; reports_start: so has every report
+--     gather_at         steps 2 and 4 are Propagate; compare_at: step 3 is Equality; step5_at: step 5 is (d) and (i); step6_at: step 6 is (j)
 --     step5_small       what is held after step 5 is 0, 1 or 2
 --     block_same        the six steps of a block give what an iteration of Algorithm BC gives, for every server below n
 -- Assumes nothing.

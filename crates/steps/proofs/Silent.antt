@@ -1,5 +1,5 @@
 -- Silence means open: a missing byte of the message table does what the byte 0 does.
---     zero_at             there is nothing but 0 in a list of zeros and past its end; zeros-after: zeros after a list are what is read past its end
+--     zero_at             there is nothing but 0 in a list of zeros and past its end; zeros_after: zeros after a list are what is read past its end
 --     message_silent      so a table and the same with zeros after it have the same message for each number
 --     silence_means_open  the statement
 -- Assumes nothing.

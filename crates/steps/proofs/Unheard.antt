@@ -2,8 +2,8 @@
 --     message_same     tables that begin alike have the same message for each number that far
 --     heard_same       so what is heard by carriages with such numbers; gather_same, compare_same, told_same: so what a step gives
 --     carriages_long   how many carriages a block has, kind by kind
---     block_alike      so what a block gives; blocks-alike: so what the blocks of a list give
---     written_alike    so what a call that is answered writes; after-alike: so the lent buffer, whatever the answer
+--     block_alike      so what a block gives; blocks_alike: so what the blocks of a list give
+--     written_alike    so what a call that is answered writes; after_alike: so the lent buffer, whatever the answer
 --     unheard          the statement
 -- Assumes nothing.
 use mathlib.Core.Path.{◌≡◌, refl, sym, ap, ◌∙◌}

@@ -1,5 +1,5 @@
 -- What makes the quick test fast. With links that all have a return, the fewest servers that cut a part L off from the others are the neighbours
--- of L, so one scan over L finds the least number, and no K is tried (`Scanned.scan-ends`).
+-- of L, so one scan over L finds the least number, and no K is tried (`Scanned.scan_ends`).
 --     unlike rows sources      == some server has other links than it has sources
 --     every_linked n sources    == each server of V has, with itself, all servers of V for its sources
 --     neighbours n links L     == the servers outside L with a link into it, as a number

@@ -1,5 +1,5 @@
 -- `blocks::put_block` meets its contract: the head, the routes of 12, those of 13 and the reports, one after the other, are the bytes of the block
--- (`block-put`). Assumes nothing.
+-- (`block_put`). Assumes nothing.
 use Rattle.blocks.proofs.Texts.{block_put}
 use Rattle.blocks.proofs.put_block.Goals as goal
 

@@ -1,4 +1,4 @@
--- `choice::less_at` meets its contract. The table is looked up at the set without x (`less-there`). Assumes nothing.
+-- `choice::less_at` meets its contract. The table is looked up at the set without x (`less_there`). Assumes nothing.
 use Rattle.choice.proofs.Filled.{less_there, less_gone}
 use Rattle.choice.proofs.less_at.Goals as goal
 

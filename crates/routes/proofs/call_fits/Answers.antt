@@ -1,4 +1,4 @@
--- `routes::call_fits` meets its contract: the tests of `callFits`, in their order. Assumes nothing.
+-- `routes::call_fits` meets its contract: the tests of `call_fits`, in their order. Assumes nothing.
 use Rattle.routes.proofs.Calling.{fits_many, fits_faults, fits_sources, fits_last}
 use Rattle.routes.proofs.call_fits.Goals as goal
 

@@ -1,4 +1,4 @@
--- `sets::member` meets its contract. The digit is read off by a shift; past the eighth server a byte has no digit (`has-beyond`). Assumes nothing.
+-- `sets::member` meets its contract. The digit is read off by a shift; past the eighth server a byte has no digit (`has_beyond`). Assumes nothing.
 use mathlib.Core.Path.{refl, sym}
 use Rattle.sets.specs.Sets.{has}
 use Rattle.sets.proofs.Members.{has_beyond}

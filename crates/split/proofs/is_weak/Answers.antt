@@ -1,5 +1,5 @@
--- `split::is_weak` meets its contract. The two tables give the servers with a link into s (`halves-into`), and the table of sizes counts
--- those outside s and F (`size-outside`). Assumes nothing.
+-- `split::is_weak` meets its contract. The two tables give the servers with a link into s (`halves_into`), and the table of sizes counts
+-- those outside s and F (`size_outside`). Assumes nothing.
 use lib.Dec.{leb}
 use mathlib.Core.Path.{ap, ◌∙◌}
 use Prim.Native.Nat.{ℕ}

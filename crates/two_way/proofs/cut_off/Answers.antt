@@ -1,4 +1,4 @@
--- `two_way::cut_off` meets its contract. The tables give the neighbours of the part (`around-is`); if they leave others, the table of sizes counts
+-- `two_way::cut_off` meets its contract. The tables give the neighbours of the part (`around_is`); if they leave others, the table of sizes counts
 -- them. Assumes nothing.
 use mathlib.Core.Path.{◌≡◌}
 use Prim.Native.Nat.{ℕ, ◌^◌, ◌≤◌, ◌<◌}

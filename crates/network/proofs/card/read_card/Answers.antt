@@ -1,5 +1,5 @@
--- `network::card::read_card` meets its contract. The head gives the refusal, or the place from which the links are read (`opening-fails`,
--- `opening-fits`). Assumes nothing.
+-- `network::card::read_card` meets its contract. The head gives the refusal, or the place from which the links are read (`opening_fails`,
+-- `opening_fits`). Assumes nothing.
 use mathlib.Core.Path.{refl}
 use native.Mathlib.Omega.{arith}
 use Rattle.network.proofs.Reading.{answered_refused, reading_long, opening_fails, opening_fits}

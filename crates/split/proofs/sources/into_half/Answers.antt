@@ -1,4 +1,4 @@
--- `split::sources::into_half` meets its contract. The union of four rows, each kept or not (`half-made`). Assumes nothing.
+-- `split::sources::into_half` meets its contract. The union of four rows, each kept or not (`half_made`). Assumes nothing.
 use Rattle.split.proofs.SourceRows.{half_made}
 use Rattle.split.proofs.sources.into_half.Goals as goal
 
