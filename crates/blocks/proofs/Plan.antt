@@ -16,7 +16,7 @@ use Rattle.network.specs.Links.{Links, linked_in}
 use Rattle.network.specs.Rows.{rows_of}
 use Rattle.network.proofs.LinkRows.{rows_at, row_has}
 use Rattle.split.specs.Sources.{sources_to, SourceRows}
-use Rattle.plan.specs.Members.{members}
+use Rattle.sets.specs.Members.{members}
 use Rattle.rules.specs.Blocks.{Route, Report}
 use Rattle.rules.specs.Rules.{sources_for, pairs_of}
 use Rattle.rules.proofs.Lists.{members_in}

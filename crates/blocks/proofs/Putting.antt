@@ -19,7 +19,7 @@ use Rattle.facts.proofs.Bools.{cases}
 use Rattle.facts.specs.Laid.{laid}
 use Rattle.facts.proofs.Stores.{laid_append, length_laid}
 use Rattle.sets.specs.Sets.{Set, has}
-use Rattle.plan.specs.Members.{list_from, members}
+use Rattle.sets.specs.Members.{list_from, members}
 use Rattle.blocks.specs.Written.{Put}
 
 -- puts

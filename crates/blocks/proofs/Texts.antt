@@ -17,7 +17,7 @@ use borrow.Author.Tests.{lt-ltb, eq-eqb, eqb-true}
 use Rattle.facts.proofs.Bools.{cases, same}
 use Rattle.sets.specs.Sets.{has, single, meet, minus}
 use Rattle.sets.proofs.Members.{has_minus, has_single}
-use Rattle.plan.specs.Members.{list_from, members}
+use Rattle.sets.specs.Members.{list_from, members}
 use Rattle.rules.specs.Blocks.{operand, Route, encode_routes, encode_reports, encode_block}
 use Rattle.rules.specs.Rules.{sources_for, pairs_of}
 use Rattle.rules.proofs.Groups.{encode_append}

@@ -5,7 +5,7 @@
 use Rattle.std.specs.Prelude.{◌≡◌, List, [], ◌∷◌, ◌++◌, map, ℕ, ◌+◌, ◌≤◌, length, get_or}
 use Rattle.facts.specs.Laid.{laid}
 use Rattle.sets.specs.Sets.{single, meet, minus}
-use Rattle.plan.specs.Members.{members}
+use Rattle.sets.specs.Members.{members}
 use Rattle.rules.specs.Blocks.{Route, Report, Block, encode_block}
 use Rattle.rules.specs.Rules.{pairs_of}
 use Rattle.flow.specs.Search.{lowest_of, flow_by}

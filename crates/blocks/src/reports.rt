@@ -2,7 +2,7 @@
 ghost use Rattle.std.specs.Prelude.{[], ◌∷◌, map, ◌≤◌};
 ghost use Rattle.sets.specs.Sets.{meet};
 ghost use Rattle.flow.specs.Search.{lowest_of};
-ghost use Rattle.plan.specs.Members.{members};
+ghost use Rattle.sets.specs.Members.{members};
 ghost use Rattle.rules.specs.Blocks.{encode_reports};
 ghost use Rattle.blocks.specs.Written.{report_by, Put};
 

@@ -1,7 +1,7 @@
 // The routes of a block, laid into lent memory from a place on.
 ghost use Rattle.std.specs.Prelude.{◌≤◌, ◌<◌};
 ghost use Rattle.sets.specs.Sets.{minus};
-ghost use Rattle.plan.specs.Members.{members};
+ghost use Rattle.sets.specs.Members.{members};
 ghost use Rattle.rules.specs.Blocks.{encode_routes};
 ghost use Rattle.rules.specs.Rules.{sources_for, pairs_of};
 ghost use Rattle.flow.specs.Routes.{routes_of};

@@ -2,7 +2,7 @@
 use mathlib.Core.Path.{◌≡◌, refl}
 use mathlib.Core.List.{[], ◌∷◌}
 use Rattle.sets.specs.Sets.{has, single, union, meet, minus, encode, first_in, lowest, count, size}
-use Rattle.plan.specs.Members.{list_from, members}
+use Rattle.sets.specs.Members.{list_from, members}
 use Rattle.flow.specs.Search.{straight, lowest_of, out_in, with_start, with_end, with_use, without_use, with_step, without_step, lost, reached, changed, feeder, behind, step_in, step_out, tries, ahead, enter, seek, seek_all, last_in, linking, flow_by}
 use Rattle.flow.specs.Routes.{trail, routes_of, cut_of, routes, cut, separate_routes}
 

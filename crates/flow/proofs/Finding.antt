@@ -23,7 +23,7 @@ use Rattle.network.specs.Links.{Links, linked_in}
 use Rattle.network.specs.Rows.{rows_of}
 use Rattle.network.specs.Proper.{Proper}
 use Rattle.network.proofs.LinkRows.{rows_linked}
-use Rattle.plan.specs.Members.{members}
+use Rattle.sets.specs.Members.{members}
 use Rattle.rules.specs.Blocks.{Route, source_of, receiver_of}
 use Rattle.rules.specs.Rules.{IsRoute, Separate, AllSeparate}
 use Rattle.rules.proofs.Lists.{length_members, members_in}

@@ -3,7 +3,7 @@
 --                                            than k servers that every such route meets
 use Rattle.std.specs.Prelude.{cond, List, [], ◌∷◌, map, ℕ, zero, suc, get_or}
 use Rattle.sets.specs.Sets.{has, minus, lowest}
-use Rattle.plan.specs.Members.{members}
+use Rattle.sets.specs.Members.{members}
 use Rattle.rules.specs.Blocks.{Route}
 use Rattle.flow.specs.declared.Flow.{Flow}
 use Rattle.flow.specs.declared.Sought.{Sought}

@@ -12,7 +12,7 @@ use borrow.Author.Tests.{eqb-true, le-leb, lt-leb}
 use Rattle.facts.proofs.Bools.{cases}
 use Rattle.facts.proofs.Tables.{every_entry, entry}
 use Rattle.sets.specs.Sets.{has, meet, minus, within, full, count, size, first_in, lowest}
-use Rattle.plan.specs.Members.{list_from}
+use Rattle.sets.specs.Members.{list_from}
 use Rattle.plan.specs.Due.{is_part, blocks_of, blocks_of_all, due}
 use Rattle.planner.specs.Plan.{block_length, lengths, plan_length}
 use Rattle.planner.proofs.Short.{length_few}

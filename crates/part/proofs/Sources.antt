@@ -14,7 +14,7 @@ use Rattle.facts.proofs.Bools.{by_cond, and_left}
 use Rattle.sets.specs.Sets.{In, has, minus, within, full}
 use Rattle.sets.proofs.Members.{has_minus, has_full, within_in}
 use Rattle.network.specs.Links.{Links}
-use Rattle.plan.specs.Members.{members}
+use Rattle.sets.specs.Members.{members}
 use Rattle.plan.specs.Due.{DueBlock}
 use Rattle.rules.specs.Blocks.{Route, source_of, Report, Block, Carriage, carriage_of, report_carriages}
 use Rattle.rules.specs.Rules.{IsRoute, IsReport, InBlock}

@@ -15,7 +15,7 @@ use Rattle.facts.proofs.Bools.{by_cond}
 use Rattle.refusal.specs.declared.PlanGround.{PlanGround}
 use Rattle.sets.specs.Sets.{meet, minus, full, within, single}
 use Rattle.network.specs.Links.{Links}
-use Rattle.plan.specs.Members.{members}
+use Rattle.sets.specs.Members.{members}
 use Rattle.plan.specs.Due.{DueBlock, Group, blocks_of, fan, to_one, pairs, routes_due}
 use Rattle.route.specs.Route.{route_set}
 use Rattle.route.specs.Commands.{width, is_cut}

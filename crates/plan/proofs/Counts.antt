@@ -2,7 +2,7 @@
 use mathlib.Core.Path.{◌≡◌, refl}
 use lib.ListN.{length}
 use Rattle.sets.specs.Sets.{has, meet, minus, within, full, count, size, first_in, lowest}
-use Rattle.plan.specs.Members.{list_from}
+use Rattle.sets.specs.Members.{list_from}
 use Rattle.plan.specs.Due.{is_part, blocks_of, blocks_of_all, due}
 
 pub four_none : length (due 4 0) ≡ 7

@@ -14,7 +14,7 @@ use lib.Pow.{pow_pos, pow_mono}
 use lib.Dec.{eqb, leb}
 use borrow.Author.Tests.{le-leb, lt-leb}
 use Rattle.sets.specs.Sets.{Set, has, minus, within, full, size, lowest}
-use Rattle.plan.specs.Members.{list_from}
+use Rattle.sets.specs.Members.{list_from}
 use Rattle.plan.specs.Due.{is_part, blocks_of, blocks_of_all, due}
 use Rattle.plan.proofs.Walks.{list_next, list_skip, list_done}
 

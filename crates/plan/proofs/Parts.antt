@@ -13,7 +13,7 @@ use borrow.Author.Tests.{eq-eqb, ne_eqb}
 use Rattle.refusal.specs.declared.PlanGround.{PlanGround}
 use Rattle.sets.specs.Sets.{minus, full, within}
 use Rattle.network.specs.Links.{Links}
-use Rattle.plan.specs.Members.{members}
+use Rattle.sets.specs.Members.{members}
 use Rattle.plan.specs.Due.{fan, pairs, routes_due}
 use Rattle.route.specs.Commands.{is_cut}
 use Rattle.plan.specs.Check.{Progress, reached, stopped, and_then, is_due, check_groups, check_reports, check_block}

@@ -18,7 +18,7 @@ use Rattle.network.specs.Card.{Network, network, read_card, head, head_of, links
 use Rattle.network.specs.Card as Card
 use Rattle.network.proofs.Main.{card_proper}
 use Rattle.network.proofs.Heads.{network_is, refused_of}
-use Rattle.plan.specs.Members.{list_from}
+use Rattle.sets.specs.Members.{list_from}
 use Rattle.plan.specs.Due.{is_part, blocks_of, due}
 use Rattle.plan.specs.Check.{Progress, reached, and_then, check_blocks, check_end, Totals, totals, turned, totals_of, check_on, check_plan}
 use Rattle.plan.specs.Answers.{progress_of}

@@ -17,7 +17,7 @@ use Rattle.sets.specs.Sets.{has, minus, within, full, size}
 use Rattle.network.specs.Links.{Links, linked_in}
 use Rattle.network.specs.Rows.{links_of}
 use Rattle.network.proofs.LinkRows.{linked_row}
-use Rattle.plan.specs.Members.{list_from, members}
+use Rattle.sets.specs.Members.{list_from, members}
 use Rattle.route.specs.Commands.{width, is_cut}
 use Rattle.plan.specs.Check.{reached, stopped, is_due, all_linked, is_report, check_reports}
 use Rattle.plan.proofs.Groups.{whole_command}

@@ -12,7 +12,7 @@ use Rattle.refusal.specs.Refused.{plan_refusal, number_of, place_of}
 use Rattle.refusal.specs.declared.PlanGround.{PlanGround}
 use Rattle.sets.specs.Sets.{minus, full}
 use Rattle.network.specs.Links.{Links}
-use Rattle.plan.specs.Members.{list_from}
+use Rattle.sets.specs.Members.{list_from}
 use Rattle.plan.specs.Due.{is_part, blocks_of}
 use Rattle.plan.specs.Check.{reached, onward, check_block, check_blocks}
 use Rattle.plan.specs.Answers.{progress_of, due_of}

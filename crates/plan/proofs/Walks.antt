@@ -15,7 +15,7 @@ use borrow.Author.Tests.{eq-eqb, ne_eqb}
 use Rattle.facts.proofs.Bools.{cases}
 use Rattle.sets.specs.Sets.{Set, single, minus, full}
 use Rattle.network.specs.Links.{Links}
-use Rattle.plan.specs.Members.{list_from}
+use Rattle.sets.specs.Members.{list_from}
 use Rattle.plan.specs.Due.{is_part, blocks_of, blocks_of_all, fan, to_one, pairs}
 use Rattle.route.specs.Commands.{is_cut}
 use Rattle.plan.specs.Check.{Progress, reached, stopped, and_then, onward, is_due, is_report, check_group, check_groups, check_reports, check_block, check_blocks}

@@ -7,7 +7,7 @@ use Rattle.network.specs.Links.{Links, linked_in}
 use Rattle.network.specs.Card.{Network, network, refused, read_card}
 use Rattle.route.specs.Route.{route_set}
 use Rattle.route.specs.Commands.{is_cut}
-use Rattle.plan.specs.Members.{members}
+use Rattle.sets.specs.Members.{members}
 use Rattle.plan.specs.Due.{DueBlock, due, Group, routes_due}
 
 -- the place reached and the carriages so far, or the refusal

@@ -4,7 +4,7 @@
 --     routes_due ..       == the routes that are due in a block with this F, A and S, in order, by receiver
 use Rattle.std.specs.Prelude.{Bool, cond, not, ◌&&◌, List, [], ◌∷◌, ◌++◌, ℕ, ◌+◌, ◌^◌, eqb, leb}
 use Rattle.sets.specs.Sets.{has, single, minus, within, full, size, lowest}
-use Rattle.plan.specs.Members.{list_from, members}
+use Rattle.sets.specs.Members.{list_from, members}
 
 pub record DueBlock : Type 0 where
   pub faults : ℕ

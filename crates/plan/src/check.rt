@@ -4,7 +4,7 @@ ghost use Rattle.refusal.specs.Refused.{plan_refusal, number_of, place_of};
 ghost use Rattle.sets.specs.Sets.{minus, full, lowest};
 ghost use Rattle.network.specs.Card.{network};
 ghost use Rattle.network.specs.Rows.{links_of};
-ghost use Rattle.plan.specs.Members.{list_from, members};
+ghost use Rattle.sets.specs.Members.{list_from, members};
 ghost use Rattle.plan.specs.Due.{is_part, blocks_of, due, fan, to_one, pairs, routes_due};
 ghost use Rattle.route.specs.Commands.{width, is_cut};
 ghost use Rattle.plan.specs.Check.{and_then, check_group, check_groups, all_linked, is_report, check_reports, check_block, check_blocks, check_end, check_on, check_plan};

@@ -8,7 +8,7 @@ use Rattle.network.specs.Rows.{row_of, rows_from, rows_of}
 use Rattle.split.specs.Sources.{sources_to}
 use Rattle.split.specs.Split.{some_below, incoming}
 use Rattle.split.specs.Weak.{outside, weak}
-use Rattle.plan.specs.Members.{list_from, members}
+use Rattle.sets.specs.Members.{list_from, members}
 use Rattle.plan.specs.Due.{is_part, blocks_of, blocks_of_all, due}
 use Rattle.rules.specs.Blocks.{operand, encode_routes, encode_reports, encode_block, encode_blocks, encode_plan}
 use Rattle.rules.specs.Rules.{sources_for, pairs_of}

@@ -24,7 +24,7 @@ use Rattle.network.specs.Links.{Links}
 use Rattle.network.specs.Proper.{Proper}
 use Rattle.split.specs.Split.{good, first_bad}
 use Rattle.condition.proofs.Partitions.{member_of}
-use Rattle.plan.specs.Members.{members}
+use Rattle.sets.specs.Members.{members}
 use Rattle.plan.specs.Due.{DueBlock, due}
 use Rattle.rules.specs.Blocks.{Route, source_of, receiver_of, Report, Block, among_due, encode_block, encode_blocks, encode_plan, length_of}
 use Rattle.rules.specs.Rules.{repeated, Fan, ends_of, Mesh, reports_to, InBlock, InOrder}

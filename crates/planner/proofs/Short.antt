@@ -7,7 +7,7 @@ use lib.Dec.{eqb, leb}
 use borrow.Author.Tests.{leb-true, eqb-true, eqb-false}
 use Rattle.facts.proofs.Bools.{cases, and_left, and_right}
 use Rattle.sets.specs.Sets.{Set, has, meet, minus, within, full, count, size, first_in, lowest}
-use Rattle.plan.specs.Members.{list_from}
+use Rattle.sets.specs.Members.{list_from}
 use Rattle.plan.specs.Due.{is_part, blocks_of, blocks_of_all, due}
 use Rattle.planner.specs.Plan.{block_length, lengths, plan_length}
 

@@ -27,7 +27,7 @@ use Rattle.split.specs.Split.{good, first_bad}
 use Rattle.condition.proofs.Theorem.{good_condition}
 use Rattle.condition.proofs.Wide.{condition_wide}
 use Rattle.condition.proofs.Partitions.{member_of}
-use Rattle.plan.specs.Members.{list_from, members}
+use Rattle.sets.specs.Members.{list_from, members}
 use Rattle.plan.specs.Due.{DueBlock, is_part, due}
 use Rattle.rules.specs.Blocks.{source_of, receiver_of, Report}
 use Rattle.rules.specs.Rules.{IsRoute, AllSeparate, repeated, Fan, sources_for, pairs_of, ends_of, Mesh, IsReport, reports_to, InBlock, InOrder}

@@ -8,7 +8,7 @@ use Rattle.sets.specs.Sets.{single, meet, minus, full, size}
 use Rattle.network.specs.Links.{Links, linked_in}
 use Rattle.network.specs.Rows.{rows_of}
 use Rattle.split.specs.Sources.{sources_to}
-use Rattle.plan.specs.Members.{members}
+use Rattle.sets.specs.Members.{members}
 use Rattle.plan.specs.Due.{DueBlock, due}
 use Rattle.rules.specs.Blocks.{Route, Report, Block, encode_plan}
 use Rattle.rules.specs.Rules.{pairs_of}

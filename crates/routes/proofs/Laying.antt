@@ -16,7 +16,7 @@ use Rattle.facts.specs.Lists.{Each}
 use Rattle.facts.specs.Laid.{laid}
 use Rattle.facts.proofs.Stores.{laid_append, length_laid}
 use Rattle.sets.specs.Sets.{has, size}
-use Rattle.plan.specs.Members.{list_from, members}
+use Rattle.sets.specs.Members.{list_from, members}
 use Rattle.rules.specs.Blocks.{Route, operand}
 use Rattle.rules.proofs.Lists.{length_members}
 use Rattle.flow.specs.declared.Flow.{Flow}

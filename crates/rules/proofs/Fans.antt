@@ -16,7 +16,7 @@ use Rattle.facts.proofs.Bools.{by_cond}
 use Rattle.sets.specs.Sets.{Set, In, has, size, minus, full}
 use Rattle.sets.proofs.Members.{meet_nothing}
 use Rattle.network.specs.Links.{Links}
-use Rattle.plan.specs.Members.{list_from, members}
+use Rattle.sets.specs.Members.{list_from, members}
 use Rattle.plan.specs.Due.{Group, fan}
 use Rattle.route.specs.Commands.{width}
 use Rattle.plan.specs.Check.{Progress, reached, and_then, check_group, check_groups}

@@ -16,7 +16,7 @@ use lib.ListN.{length}
 use borrow.Author.Tests.{eqb-true, eqb-false}
 use Rattle.facts.proofs.Bools.{cases}
 use Rattle.sets.specs.Sets.{Set, has, count, size}
-use Rattle.plan.specs.Members.{list_from, members}
+use Rattle.sets.specs.Members.{list_from, members}
 
 pub listed_in : (k lo : ℕ) (p : Set) (i : ℕ) → Memᴰ i (list_from k lo p) → (p i ≡ true) × (lo ≤ i) × (i < lo + k)
 unfolding list_from

@@ -17,7 +17,7 @@ use Rattle.facts.proofs.Bools.{cases, by_cond, and_right, both}
 use Rattle.sets.specs.Sets.{In, has, single, minus, full}
 use Rattle.sets.proofs.Members.{has_single, meet_nothing}
 use Rattle.network.specs.Links.{Links}
-use Rattle.plan.specs.Members.{members}
+use Rattle.sets.specs.Members.{members}
 use Rattle.plan.specs.Due.{Group, to_one, pairs}
 use Rattle.route.specs.Route.{path}
 use Rattle.route.specs.Commands.{width}

@@ -23,7 +23,7 @@ use Rattle.sets.specs.Sets.{Set, has, minus, within, full, size, lowest}
 use Rattle.sets.proofs.Members.{has_minus, minus_small, full_small, same_members, no_member, within_in, in_within}
 use Rattle.sets.proofs.LowestMember.{lowest_in}
 use Rattle.network.specs.Links.{Links}
-use Rattle.plan.specs.Members.{list_from}
+use Rattle.sets.specs.Members.{list_from}
 use Rattle.plan.specs.Due.{DueBlock, is_part, blocks_of, blocks_of_all, due}
 use Rattle.rules.specs.Blocks.{Block}
 use Rattle.facts.specs.Lists.{Each}

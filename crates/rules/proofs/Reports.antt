@@ -19,7 +19,7 @@ use Rattle.facts.proofs.Bools.{cases, and_left, and_right, both}
 use Rattle.sets.specs.Sets.{has, minus, within, full, size}
 use Rattle.sets.proofs.Members.{has_minus, has_full, within_in}
 use Rattle.network.specs.Links.{Links, linked_in}
-use Rattle.plan.specs.Members.{members}
+use Rattle.sets.specs.Members.{members}
 use Rattle.route.specs.Commands.{width}
 use Rattle.plan.specs.Check.{reached, all_linked, is_report, check_reports}
 use Rattle.plan.proofs.Groups.{whole_command}

@@ -21,7 +21,7 @@ use Rattle.sets.specs.Sets.{In, has, minus, full}
 use Rattle.sets.proofs.Members.{has_minus, has_full, has_empty, has_below, minus_small, full_small, within_in}
 use Rattle.sets.proofs.Counts.{count_none, size_count}
 use Rattle.network.specs.Links.{Links}
-use Rattle.plan.specs.Members.{members}
+use Rattle.sets.specs.Members.{members}
 use Rattle.plan.specs.Due.{DueBlock, due}
 use Rattle.rules.specs.Blocks.{Route, receiver_of, Block}
 use Rattle.rules.specs.Rules.{IsRoute, Separate, AllSeparate, repeated, Fan, InBlock, InOrder}

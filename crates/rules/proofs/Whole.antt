@@ -17,7 +17,7 @@ use borrow.Author.Tests.{eq-eqb, ne_eqb, eqb-true, eqb-false}
 use Rattle.facts.proofs.Bools.{cases, and_left, and_right, not_true, or_cases}
 use Rattle.sets.specs.Sets.{minus, within, full, size}
 use Rattle.network.specs.Links.{Links}
-use Rattle.plan.specs.Members.{members}
+use Rattle.sets.specs.Members.{members}
 use Rattle.plan.specs.Due.{DueBlock, Group, fan, pairs, routes_due}
 use Rattle.route.specs.Commands.{width, is_cut}
 use Rattle.plan.specs.Check.{Progress, reached, and_then, onward, check_groups, check_reports, check_block, check_blocks}

@@ -5,7 +5,7 @@
 --     plan_carriages bs    == the carriages in plan order; carriage i has number i
 use Rattle.std.specs.Prelude.{List, [], ◌∷◌, ◌++◌, map, ℕ, zero, suc, ◌+◌, ◌-◌, ◌*◌, length, get_or, take, drop, replicate}
 use Rattle.sets.specs.Sets.{minus, full, size}
-use Rattle.plan.specs.Members.{members}
+use Rattle.sets.specs.Members.{members}
 use Rattle.plan.specs.Due.{due}
 use Rattle.route.specs.Route.{path}
 use Rattle.plan.specs.Check.{route_at}

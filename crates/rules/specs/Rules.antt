@@ -4,7 +4,7 @@ use Rattle.std.specs.Prelude.{◌≡◌, ◌⊎◌, true, cond, List, [], ◌∷
 use Rattle.facts.specs.Lists.{Each}
 use Rattle.sets.specs.Sets.{In, Out, has, minus, within, full, size}
 use Rattle.network.specs.Links.{Links, linked_in}
-use Rattle.plan.specs.Members.{members}
+use Rattle.sets.specs.Members.{members}
 use Rattle.plan.specs.Due.{DueBlock, due}
 use Rattle.rules.specs.Blocks.{Route, source_of, receiver_of, Report, Block, encode_plan}
 

@@ -13,7 +13,7 @@ use native.Mathlib.Omega.{arith}
 use lib.ListN.{length, drop, length-append, length-map}
 use lib.Seq.{drop-drop}
 use Rattle.sets.specs.Sets.{minus, meet, full, size, TableOf}
-use Rattle.plan.specs.Members.{members}
+use Rattle.sets.specs.Members.{members}
 use Rattle.plan.proofs.Cuts.{full_few}
 use Rattle.rules.specs.Blocks.{Report, Block, carriage_of, report_from, report_carriages, carriages_of, decode_block, length_of, decode_blocks}
 use Rattle.facts.specs.Lists.{Each}

@@ -17,7 +17,7 @@ use borrow.Author.Tests.{eq-eqb, ne_eqb, eqb-true, eqb-false}
 use Rattle.facts.proofs.Bools.{cases}
 use Rattle.sets.specs.Sets.{has, size}
 use Rattle.sets.proofs.Counts.{size_le}
-use Rattle.plan.specs.Members.{members}
+use Rattle.sets.specs.Members.{members}
 use Rattle.plan.proofs.Lowests.{members_none, Taken, taken_less}
 use Rattle.rules.specs.Blocks.{Carriage, report_from, reports_at, report_carriages}
 use Rattle.facts.specs.Lists.{Each}

@@ -1,7 +1,7 @@
 // What a carriage brings, and what the arrivals of each server speak against.
 ghost use Rattle.std.specs.Prelude.{◌≡◌, cond, [], ◌∷◌, map, ℕ, ◌+◌, ◌*◌, ◌/◌, ◌%◌, ◌≤◌, ◌<◌, eqb, length, get_or};
 ghost use Rattle.sets.specs.Sets.{has};
-ghost use Rattle.plan.specs.Members.{members};
+ghost use Rattle.sets.specs.Members.{members};
 ghost use Rattle.rules.specs.Blocks.{routes_at, reports_at, carriage_of, report_carriages};
 ghost use Rattle.facts.specs.Lists.{Each};
 ghost use Rattle.steps.specs.Hearing.{hit, message, heard};

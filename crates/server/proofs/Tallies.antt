@@ -17,7 +17,7 @@ use borrow.Author.Tests.{lt-ltb, le-ltb, ne_eqb, eqb-true, eqb-false}
 use Rattle.facts.specs.Lists.{Each}
 use Rattle.facts.proofs.Bools.{cases}
 use Rattle.sets.specs.Sets.{Set, has}
-use Rattle.plan.specs.Members.{list_from, members}
+use Rattle.sets.specs.Members.{list_from, members}
 use Rattle.rules.specs.Blocks.{Route, Report, Carriage, carriage_of, report_from, report_carriages}
 use Rattle.rules.proofs.Lists.{length_members}
 use Rattle.carriage.specs.Openings.{ReportOf}

@@ -4,6 +4,8 @@
 mod size_table;
 
 ghost use Rattle.std.specs.Prelude.{◌≡◌, min};
+ghost use Rattle.std.specs.Iterator.{YieldsFirst, item_count};
+ghost use Rattle.sets.specs.Members.{members};
 ghost use Rattle.sets.specs.Sets.{has, single, full, union, meet, minus, within, size, lowest, next, TableOf};
 
 use crate::size_table::SIZES;
@@ -92,4 +94,35 @@ pub fn next_apart(s: u8, busy: u8) -> u16
     let after = ((s | busy) as u16) + 1;
     let b = busy as u16;
     after ^ (after & b)
+}
+
+// The members of a set, from the lowest on.
+#[derive(Clone, Copy, Drop)]
+pub struct Servers {
+    // Those that are still to come.
+    pub left: u8,
+}
+
+impl Iterator for Servers {
+    type Item = u8;
+
+    ghost next_gives = { YieldsFirst (λ m. members m.left) };
+
+    ghost remaining = { item_count (λ m. members m.left) };
+
+    fn next(&mut self) -> Option<u8> {
+        if self.left == 0 {
+            return None;
+        }
+        let first = lowest(self.left);
+        self.left = minus(self.left, single(first));
+        Some(first)
+    }
+}
+
+// The members of s, to go over them.
+pub fn ascending(s: u8) -> Servers
+    ensures { result.left ≡ s }
+{
+    Servers { left: s }
 }

@@ -26,7 +26,7 @@ use Rattle.sets.proofs.Members.{has_minus, has_full, has_empty, within_in, minus
 use Rattle.sets.proofs.Counts.{size_count}
 use Rattle.sets.proofs.LowestMember.{lowest_in}
 use Rattle.network.specs.Links.{Links, linked_in}
-use Rattle.plan.specs.Members.{members}
+use Rattle.sets.specs.Members.{members}
 use Rattle.plan.specs.Due.{DueBlock, is_part}
 use Rattle.rules.specs.Blocks.{Route, receiver_of, Report, Block, Carriage, carriage_of, report_from, report_carriages}
 use Rattle.facts.specs.Lists.{Each}

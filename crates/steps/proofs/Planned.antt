@@ -21,7 +21,7 @@ use Rattle.sets.specs.Sets.{Set, In, Out, has, minus, within, full, size, count,
 use Rattle.sets.proofs.Members.{has_minus, has_full, has_empty, minus_small, full_small, same_members, in_within, encode_small, encode_has}
 use Rattle.sets.proofs.Counts.{count_same, size_count}
 use Rattle.network.specs.Links.{Links, linked_in}
-use Rattle.plan.specs.Members.{list_from}
+use Rattle.sets.specs.Members.{list_from}
 use Rattle.plan.specs.Due.{DueBlock, is_part, blocks_of, blocks_of_all, due}
 use Rattle.rules.specs.Blocks.{Block, carriages_of}
 use Rattle.facts.specs.Lists.{Each}

@@ -30,7 +30,7 @@ use Rattle.facts.proofs.Bools.{cases, by_cond, same, and_left, and_right, not_tr
 use Rattle.sets.specs.Sets.{Set, In, Out, has, minus, meet, full}
 use Rattle.sets.proofs.Members.{has_minus, has_meet, has_full}
 use Rattle.network.specs.Links.{Links}
-use Rattle.plan.specs.Members.{members}
+use Rattle.sets.specs.Members.{members}
 use Rattle.plan.specs.Due.{DueBlock}
 use Rattle.rules.specs.Blocks.{Route, receiver_of, Carriage, Report, Block, carriage_of, report_from, report_carriages}
 use Rattle.facts.specs.Lists.{Each}

@@ -8,7 +8,7 @@ use native.Mathlib.Omega.{arith}
 use lib.ListN.{length}
 use borrow.Author.Tests.{eq-eqb}
 use Rattle.sets.specs.Sets.{has}
-use Rattle.plan.specs.Members.{members}
+use Rattle.sets.specs.Members.{members}
 use Rattle.plan.specs.Due.{due}
 use Rattle.rules.specs.Blocks.{Route, decode_plan}
 use Rattle.rules.specs.Rules.{sources_for, pairs_of, ends_of}

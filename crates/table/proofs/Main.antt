@@ -19,7 +19,7 @@ use Rattle.split.specs.Weak.{outside, weak}
 use Rattle.split.specs.Split.{some_below, incoming, held, rest, is_split, is_bad, bad_at, first_from, bad_with_sides, bad_with_faults, first_bad, split_test}
 use Rattle.two_way.specs.Separation.{one_way, link_to, others, parts, separates, separable, connectivity}
 use Rattle.two_way.specs.Quick.{servers_wanted, away_wanted, older_rule, quick_test}
-use Rattle.plan.specs.Members.{list_from, members}
+use Rattle.sets.specs.Members.{list_from, members}
 use Rattle.plan.specs.Due.{is_part, blocks_of, blocks_of_all, due, fan, to_one, pairs, routes_due}
 use Rattle.route.specs.Route.{path, is_fill, filled, servers_of, goes_on, is_path, is_route, checked_route, route_set}
 use Rattle.route.specs.Commands.{width, is_cut}

@@ -17,7 +17,7 @@ use Rattle.facts.specs.Laid.{laid}
 use Rattle.facts.proofs.Stores.{laid_append, length_laid}
 use Rattle.sets.specs.Sets.{minus, full}
 use Rattle.network.specs.Links.{Links}
-use Rattle.plan.specs.Members.{list_from}
+use Rattle.sets.specs.Members.{list_from}
 use Rattle.plan.specs.Due.{DueBlock, is_part, blocks_of}
 use Rattle.plan.proofs.Walks.{list_next, list_skip, list_done}
 use Rattle.rules.specs.Blocks.{encode_block, encode_blocks}

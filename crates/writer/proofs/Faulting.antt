@@ -15,7 +15,7 @@ use Rattle.sets.specs.Sets.{minus, full, size, TableOf}
 use Rattle.network.specs.Links.{Links}
 use Rattle.split.specs.Sources.{HalfTable, Tables}
 use Rattle.split.proofs.SourceRows.{halves_of}
-use Rattle.plan.specs.Members.{list_from}
+use Rattle.sets.specs.Members.{list_from}
 use Rattle.plan.specs.Due.{is_part, blocks_of, blocks_of_all, due}
 use Rattle.plan.proofs.Walks.{list_next, list_skip, list_done}
 use Rattle.plan.proofs.Cuts.{few}

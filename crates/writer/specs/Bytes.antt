@@ -6,7 +6,7 @@
 use Rattle.std.specs.Prelude.{◌≡◌, ◌⊎◌, List, [], ◌∷◌, map, ℕ, ◌+◌, ◌^◌, ◌≤◌, length, take, drop}
 use Rattle.sets.specs.Sets.{minus, full}
 use Rattle.network.specs.Links.{Links}
-use Rattle.plan.specs.Members.{list_from}
+use Rattle.sets.specs.Members.{list_from}
 use Rattle.plan.specs.Due.{is_part, blocks_of}
 use Rattle.rules.specs.Blocks.{encode_block, encode_blocks}
 use Rattle.planner.specs.Plan.{block_with, block_of}

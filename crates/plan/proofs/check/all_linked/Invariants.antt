@@ -4,7 +4,7 @@ use mathlib.Core.Path.{◌≡◌}
 use Prim.Native.Nat.{◌-◌, ◌≤◌}
 use Rattle.sets.specs.Sets.{has}
 use Rattle.network.specs.Rows.{links_of}
-use Rattle.plan.specs.Members.{list_from, members}
+use Rattle.sets.specs.Members.{list_from, members}
 use Rattle.plan.specs.Check.{all_linked}
 use Rattle.plan.proofs.check.all_linked.Given as goal
 

@@ -2,7 +2,7 @@
 -- (`Lowests`). The measure is how many are left. Assumes nothing.
 use lib.ListN.{length}
 use Rattle.network.specs.Rows.{links_of}
-use Rattle.plan.specs.Members.{members}
+use Rattle.sets.specs.Members.{members}
 use Rattle.plan.specs.Due.{fan}
 use Rattle.plan.specs.Check.{check_groups}
 use Rattle.plan.proofs.Walks.{fanStep}

@@ -5,7 +5,7 @@ use native.Mathlib.Omega.{arith}
 use lib.ListN.{length}
 use Rattle.sets.specs.Sets.{minus, full}
 use Rattle.network.specs.Rows.{links_of}
-use Rattle.plan.specs.Members.{members}
+use Rattle.sets.specs.Members.{members}
 use Rattle.plan.specs.Due.{fan, pairs}
 use Rattle.route.specs.Commands.{width}
 use Rattle.plan.specs.Check.{Progress, and_then, check_groups, check_reports}

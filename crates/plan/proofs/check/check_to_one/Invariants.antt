@@ -5,7 +5,7 @@ use mathlib.Core.Bool.{false}
 use lib.ListN.{length}
 use Rattle.sets.specs.Sets.{has}
 use Rattle.network.specs.Rows.{links_of}
-use Rattle.plan.specs.Members.{members}
+use Rattle.sets.specs.Members.{members}
 use Rattle.plan.specs.Due.{to_one}
 use Rattle.plan.specs.Check.{check_groups}
 use Rattle.plan.proofs.Walks.{toOneStep}

@@ -1,7 +1,7 @@
 -- `run::hearing::over_report` meets its contract. The invariant of its loop, `Telling`: with what is left of the reporters, what is held becomes that of
 -- the whole. The measure is how many reporters are left. What a turn needs is known once the lowest of them is taken out (`taken_out`). Assumes nothing.
 use lib.ListN.{length}
-use Rattle.plan.specs.Members.{members}
+use Rattle.sets.specs.Members.{members}
 use Rattle.steps.specs.Steps.{held}
 use Rattle.run.specs.Speaking.{bits_of}
 use Rattle.run.proofs.Reported.{Telling}
