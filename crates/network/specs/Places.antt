@@ -2,14 +2,14 @@
 --     At s at n f links     <-> the reader of card s comes to `at` with n, f and these links, and what is left gives the card's answer
 --     whole_link s at         == a link command with its operands stands at `at`
 --     Opening s r           <-> r is what the first command gives
---     Closing s at n f r    <-> r is what the command at `at` gives, which is no whole link
-use Rattle.std.specs.Prelude.{◌≡◌, Bool, true, not, ◌&&◌, List, ℕ, suc, ◌+◌, ◌-◌, ◌≤◌, eqb, ltb, length, get_or}
+--     Closing s at r        <-> r is what the command at `at` gives, which is no whole link
+--     ReadAs s n f r        <-> r is what the links after the head n f give: the links of the card's network, or its ground
+use Rattle.std.specs.Prelude.{◌≡◌, Bool, true, not, ◌&&◌, List, ℕ, suc, ◌+◌, ◌-◌, ◌≤◌, eqb, ltb, length, get_or, Result, Ok, Err}
 use Rattle.refusal.specs.Refused.{card_refusal}
+use Rattle.refusal.specs.declared.CardGround.{CardGround}
 use Rattle.network.specs.Links.{Links}
-use Rattle.network.specs.Card.{refused, more, done, head_fits, step_at, commands, read_card, with_links}
-use Rattle.network.specs.Answers.{reading_of}
+use Rattle.network.specs.Card.{network, refused, more, done, head_fits, step_at, commands, read_card}
 use Rattle.network.specs.declared.card.Head.{Head}
-use Rattle.network.specs.declared.card.Reading.{Reading}
 
 pub record At (s : List ℕ) (at n f : ℕ) (links : Links) : Type 0 where
   pub fuel : ℕ
@@ -25,9 +25,14 @@ pub record Opened (s : List ℕ) (n f : ℕ) : Type 0 where
   pub fits : head_fits n f ≡ true
   pub step : (links : Links) → step_at s 0 0 0 links ≡ more 3 n f links
 
-abbrev pub Opening : List ℕ → Head → Type 0
-Opening s (Head.Fits n f) = Opened s n f
-Opening s (Head.Fails g) = (links : Links) → step_at s 0 0 0 links ≡ done (refused (card_refusal g))
+abbrev pub Opening : List ℕ → Result Head CardGround → Type 0
+Opening s (Ok h) = Opened s h.n h.f
+Opening s (Err g) = (links : Links) → step_at s 0 0 0 links ≡ done (refused (card_refusal g))
 
-abbrev pub Closing : List ℕ → (at n f : ℕ) → Reading → Type 0
-Closing s at n f r = (links : Links) → step_at s at n f links ≡ done (with_links (reading_of r) links)
+abbrev pub Closing : List ℕ → (at : ℕ) → Result Unit CardGround → Type 0
+Closing s at (Ok _) = (n f : ℕ) (links : Links) → step_at s at n f links ≡ done (network n f links)
+Closing s at (Err g) = (n f : ℕ) (links : Links) → step_at s at n f links ≡ done (refused (card_refusal g))
+
+abbrev pub ReadAs : List ℕ → (n f : ℕ) → Result Links CardGround → Type 0
+ReadAs s n f (Ok links) = network n f links ≡ read_card s
+ReadAs s n f (Err g) = refused (card_refusal g) ≡ read_card s

@@ -1,31 +1,18 @@
 // The card reader: any bytes, any length, to the network or to the one refusal.
 ghost use Rattle.std.specs.Prelude.{◌≡◌, ◌≤◌, ◌<◌, false, length};
-ghost use Rattle.refusal.specs.Refused.{card_refusal};
-ghost use Rattle.network.specs.Card.{turned, head_fits, link_fits};
+ghost use Rattle.network.specs.Card.{head_fits, link_fits, read_card};
 ghost use Rattle.network.specs.Links.{no_links};
-ghost use Rattle.network.specs.Answers.{reading_of, Answered};
-ghost use Rattle.network.specs.Places.{whole_link, Opening, Closing, At};
+ghost use Rattle.network.specs.Answers.{network_of, Answered};
+ghost use Rattle.network.specs.Places.{whole_link, Opening, Closing, ReadAs, At};
 
+use crate::Network;
 use refusal::{CardGround, Refusal};
 
-// What a card gives: the number of servers n and the fault bound f, or the refusal.
-#[derive(Drop)]
-pub enum Reading {
-    Network { n: u8, f: u8 },
-    Refused(Refusal),
-}
-
-// What the front of a card gives: n and f, or the ground of the card's refusal.
-#[derive(Drop)]
-enum Head {
-    Fits { n: u8, f: u8 },
-    Fails(CardGround),
-}
-
-fn refused(ground: CardGround) -> Reading
-    ensures { reading_of result ≡ turned (card_refusal ground) }
-{
-    Reading::Refused(Refusal::Card(ground))
+// What stands at the front of a card: the number of servers n and the fault bound f.
+#[derive(Clone, Copy, Drop)]
+pub struct Head {
+    pub n: u8,
+    pub f: u8,
 }
 
 // n is 2 to 8 and f is 0 to 2.
@@ -57,34 +44,34 @@ fn link_fits(n: u8, u: u8, v: u8) -> bool
 }
 
 // The head at the front of the card, or what is at fault there.
-fn read_head(card: &[u8]) -> Head
+fn read_head(card: &[u8]) -> Result<Head, CardGround>
     ensures { Opening card.now result }
 {
     if card.len() == 0 {
-        return Head::Fails(CardGround::Cut(0));
+        return Err(CardGround::Cut(0));
     }
     let command = card[0];
     if command == 3 {
-        return Head::Fails(CardGround::Head(0));
+        return Err(CardGround::Head(0));
     }
     if command == 1 {
         if card.len() < 3 {
-            return Head::Fails(CardGround::Cut(0));
+            return Err(CardGround::Cut(0));
         }
         let n = card[1];
         let f = card[2];
         if head_fits(n, f) {
-            return Head::Fits { n, f };
+            return Ok(Head { n, f });
         }
-        return Head::Fails(CardGround::Range(0));
+        return Err(CardGround::Range(0));
     }
     if command == 2 {
         if card.len() < 3 {
-            return Head::Fails(CardGround::Cut(0));
+            return Err(CardGround::Cut(0));
         }
-        return Head::Fails(CardGround::Head(0));
+        return Err(CardGround::Head(0));
     }
-    Head::Fails(CardGround::Cut(0))
+    Err(CardGround::Cut(0))
 }
 
 // A link command with its two operands stands at this place.
@@ -98,77 +85,82 @@ fn whole_link(card: &[u8], at: usize) -> bool
     card[at] == 2
 }
 
-// The command after the last whole link: the end of the card, or what is at fault.
-fn read_end(card: &[u8], at: usize, n: u8, f: u8) -> Reading
+// The command after the last whole link is the end of the card; or what is at fault.
+fn read_end(card: &[u8], at: usize) -> Result<(), CardGround>
     requires { (at ≤ length card.now) × (0 < at) × (whole_link card.now at ≡ false) }
-    ensures { Closing card.now at n f result }
+    ensures { Closing card.now at result }
 {
     if card.len() <= at {
-        return refused(CardGround::Cut(at));
+        return Err(CardGround::Cut(at));
     }
     let command = card[at];
     if command == 3 {
         let after = at + 1;
         if after < card.len() {
-            return refused(CardGround::Trailing(after));
+            return Err(CardGround::Trailing(after));
         }
-        return Reading::Network { n, f };
+        return Ok(());
     }
     if command == 1 {
         if card.len() - at < 3 {
-            return refused(CardGround::Cut(at));
+            return Err(CardGround::Cut(at));
         }
-        return refused(CardGround::Head(at));
+        return Err(CardGround::Head(at));
     }
-    refused(CardGround::Cut(at))
-}
-
-// Reads the card: n and f, with the links laid into `links`; or what is at fault, with `links` as
-// it was.
-pub fn read_card(card: &[u8], links: &mut [[bool; 8]; 8]) -> Reading
-    ensures { Answered card.now links.old result links.new }
-{
-    if 1024 < card.len() {
-        return refused(CardGround::TooLong);
-    }
-    let head = read_head(card);
-    match head {
-        Head::Fails(ground) => refused(ground),
-        Head::Fits { n, f } => read_links(card, n, f, links),
-    }
+    Err(CardGround::Cut(at))
 }
 
 // The links after the head, and the end. A link given again finds its mark set, and is one link.
-fn read_links(card: &[u8], n: u8, f: u8, links: &mut [[bool; 8]; 8]) -> Reading
-    requires { (n ≤ 8) × (At card.now 3 n f no_links) }
-    ensures { Answered card.now links.old result links.new }
+fn read_links(card: &[u8], head: Head) -> Result<[[bool; 8]; 8], CardGround>
+    requires { (head.n ≤ 8) × (At card.now 3 head.n head.f no_links) }
+    ensures { ReadAs card.now head.n head.f result }
 {
     let mut at: usize = 3;
     let mut marks = [[false; 8]; 8];
     while whole_link(card, at) {
         let u = card[at + 1];
         let v = card[at + 2];
-        if link_fits(n, u, v) {
+        if link_fits(head.n, u, v) {
             let row = u as usize;
             let mark = v as usize;
             marks[row][mark] = true;
             at = at + 3;
         } else {
-            return refused(CardGround::Range(at));
+            return Err(CardGround::Range(at));
         }
     }
-    let reading = read_end(card, at, n, f);
-    match reading {
-        Reading::Refused(r) => Reading::Refused(r),
-        Reading::Network {
-            n: servers,
-            f: faults,
-        } => {
-            *links = marks;
-            Reading::Network {
-                n: servers,
-                f: faults,
-            }
+    read_end(card, at)?;
+    Ok(marks)
+}
+
+impl Network {
+    // Reads the card: its network, or what is at fault.
+    pub fn read(card: &[u8]) -> Result<Network, Refusal>
+        ensures { network_of result ≡ read_card card.now }
+    {
+        if 1024 < card.len() {
+            return Err(Refusal::Card(CardGround::TooLong));
         }
+        let head = read_head(card)?;
+        let links = read_links(card, head)?;
+        Ok(Network {
+            n: head.n,
+            f: head.f,
+            links,
+        })
     }
+}
+
+// Reads the card: n and f, with the links laid into `links`; or what is at fault, with `links` as
+// it was.
+pub fn read_card(card: &[u8], links: &mut [[bool; 8]; 8]) -> Result<Head, Refusal>
+    ensures { Answered card.now links.old result links.new }
+{
+    let network = Network::read(card)?;
+    let marks = network.links;
+    *links = marks;
+    Ok(Head {
+        n: network.n,
+        f: network.f,
+    })
 }

@@ -3,6 +3,7 @@
 #![tactic(auto)]
 
 ghost use Rattle.std.specs.Prelude.{◌≡◌};
+ghost use Rattle.refusal.specs.declared.Refusal.TheVariants.{Card, Plan, Call};
 ghost use Rattle.refusal.specs.Refused.{refusal_of, whose_of, number_of, place_of};
 
 #[derive(Clone, Copy)]
@@ -64,103 +65,136 @@ pub enum Refusal {
     Call(CallGround),
 }
 
-// What is at fault: 0 the card, 1 the plan, 2 the call.
-pub fn whose(r: Refusal) -> u8
-    ensures { result ≡ whose_of (refusal_of r) }
-{
-    match r {
-        Refusal::Card(_) => 0,
-        Refusal::Plan(_) => 1,
-        Refusal::Call(_) => 2,
+// A refusal that `?` makes of a card's ground.
+impl From<CardGround> for Refusal {
+    ghost from_gives = { λ g r. r ≡ Card g };
+
+    fn from(g: CardGround) -> Refusal {
+        Refusal::Card(g)
     }
 }
 
-fn card_number(g: CardGround) -> u8
-    ensures { result ≡ number_of (refusal_of (Refusal.Card g)) }
-{
-    match g {
-        CardGround::TooLong => 1,
-        CardGround::Cut(_) => 2,
-        CardGround::Trailing(_) => 3,
-        CardGround::Head(_) => 4,
-        CardGround::Range(_) => 5,
+impl From<PlanGround> for Refusal {
+    ghost from_gives = { λ g r. r ≡ Plan g };
+
+    fn from(g: PlanGround) -> Refusal {
+        Refusal::Plan(g)
     }
 }
 
-fn plan_number(g: PlanGround) -> u8
-    ensures { result ≡ number_of (refusal_of (Refusal.Plan g)) }
-{
-    match g {
-        PlanGround::TooLong => 1,
-        PlanGround::Cut(_) => 2,
-        PlanGround::Trailing(_) => 3,
-        PlanGround::NotDue(_) => 7,
-        PlanGround::Quorum(_) => 8,
-        PlanGround::Route(_) => 9,
-        PlanGround::Shared(_) => 10,
-        PlanGround::Reporters(_) => 11,
+impl From<CallGround> for Refusal {
+    ghost from_gives = { λ g r. r ≡ Call g };
+
+    fn from(g: CallGround) -> Refusal {
+        Refusal::Call(g)
     }
 }
 
-fn call_number(g: CallGround) -> u8
-    ensures { result ≡ number_of (refusal_of (Refusal.Call g)) }
-{
-    match g {
-        CallGround::Inputs => 12,
-        CallGround::FaultSet => 13,
-        CallGround::Buffer => 14,
-        CallGround::OneWay => 15,
-        CallGround::OutOfTurn => 16,
-        CallGround::BadSplit => 17,
-        CallGround::PlanBuffer => 18,
+impl CardGround {
+    fn number(self) -> u8
+        ensures { result ≡ number_of (refusal_of (Refusal.Card self)) }
+    {
+        match self {
+            CardGround::TooLong => 1,
+            CardGround::Cut(_) => 2,
+            CardGround::Trailing(_) => 3,
+            CardGround::Head(_) => 4,
+            CardGround::Range(_) => 5,
+        }
+    }
+
+    fn place(self) -> usize
+        ensures { result ≡ place_of (refusal_of (Refusal.Card self)) }
+    {
+        match self {
+            CardGround::TooLong => 0,
+            CardGround::Cut(at)
+            | CardGround::Trailing(at)
+            | CardGround::Head(at)
+            | CardGround::Range(at) => at,
+        }
     }
 }
 
-// The refusal's number, 1 to 18 without 6.
-pub fn number(r: Refusal) -> u8
-    ensures { result ≡ number_of (refusal_of r) }
-{
-    match r {
-        Refusal::Card(g) => card_number(g),
-        Refusal::Plan(g) => plan_number(g),
-        Refusal::Call(g) => call_number(g),
+impl PlanGround {
+    fn number(self) -> u8
+        ensures { result ≡ number_of (refusal_of (Refusal.Plan self)) }
+    {
+        match self {
+            PlanGround::TooLong => 1,
+            PlanGround::Cut(_) => 2,
+            PlanGround::Trailing(_) => 3,
+            PlanGround::NotDue(_) => 7,
+            PlanGround::Quorum(_) => 8,
+            PlanGround::Route(_) => 9,
+            PlanGround::Shared(_) => 10,
+            PlanGround::Reporters(_) => 11,
+        }
+    }
+
+    fn place(self) -> usize
+        ensures { result ≡ place_of (refusal_of (Refusal.Plan self)) }
+    {
+        match self {
+            PlanGround::TooLong => 0,
+            PlanGround::Cut(at)
+            | PlanGround::Trailing(at)
+            | PlanGround::NotDue(at)
+            | PlanGround::Quorum(at)
+            | PlanGround::Route(at)
+            | PlanGround::Shared(at)
+            | PlanGround::Reporters(at) => at,
+        }
     }
 }
 
-fn card_place(g: CardGround) -> usize
-    ensures { result ≡ place_of (refusal_of (Refusal.Card g)) }
-{
-    match g {
-        CardGround::TooLong => 0,
-        CardGround::Cut(at) => at,
-        CardGround::Trailing(at) => at,
-        CardGround::Head(at) => at,
-        CardGround::Range(at) => at,
+impl CallGround {
+    fn number(self) -> u8
+        ensures { result ≡ number_of (refusal_of (Refusal.Call self)) }
+    {
+        match self {
+            CallGround::Inputs => 12,
+            CallGround::FaultSet => 13,
+            CallGround::Buffer => 14,
+            CallGround::OneWay => 15,
+            CallGround::OutOfTurn => 16,
+            CallGround::BadSplit => 17,
+            CallGround::PlanBuffer => 18,
+        }
     }
 }
 
-fn plan_place(g: PlanGround) -> usize
-    ensures { result ≡ place_of (refusal_of (Refusal.Plan g)) }
-{
-    match g {
-        PlanGround::TooLong => 0,
-        PlanGround::Cut(at) => at,
-        PlanGround::Trailing(at) => at,
-        PlanGround::NotDue(at) => at,
-        PlanGround::Quorum(at) => at,
-        PlanGround::Route(at) => at,
-        PlanGround::Shared(at) => at,
-        PlanGround::Reporters(at) => at,
+impl Refusal {
+    // What is at fault: 0 the card, 1 the plan, 2 the call.
+    pub fn whose(self) -> u8
+        ensures { result ≡ whose_of (refusal_of self) }
+    {
+        match self {
+            Refusal::Card(_) => 0,
+            Refusal::Plan(_) => 1,
+            Refusal::Call(_) => 2,
+        }
     }
-}
 
-// The place of the command byte at fault; 0 where the call is at fault, which has no place.
-pub fn place(r: Refusal) -> usize
-    ensures { result ≡ place_of (refusal_of r) }
-{
-    match r {
-        Refusal::Card(g) => card_place(g),
-        Refusal::Plan(g) => plan_place(g),
-        Refusal::Call(_) => 0,
+    // The refusal's number, 1 to 18 without 6.
+    pub fn number(self) -> u8
+        ensures { result ≡ number_of (refusal_of self) }
+    {
+        match self {
+            Refusal::Card(g) => g.number(),
+            Refusal::Plan(g) => g.number(),
+            Refusal::Call(g) => g.number(),
+        }
+    }
+
+    // The place of the command byte at fault; 0 where the call is at fault, which has no place.
+    pub fn place(self) -> usize
+        ensures { result ≡ place_of (refusal_of self) }
+    {
+        match self {
+            Refusal::Card(g) => g.place(),
+            Refusal::Plan(g) => g.place(),
+            Refusal::Call(_) => 0,
+        }
     }
 }

@@ -5,8 +5,8 @@ use lib.ListN.{length}
 use Rattle.network.proofs.Reading.{Turn}
 use Rattle.network.proofs.card.read_links.Given as goal
 
-abbrev pub invariant-loop-u : goal.invariant-loop-u
-invariant-loop-u l = Turn l.card l.at l.n l.f l.marks
+abbrev pub invariant-loop-head : goal.invariant-loop-head
+invariant-loop-head l = Turn l.card l.at l.head.n l.head.f l.marks
 
-abbrev pub decreases-loop-u : goal.decreases-loop-u
-decreases-loop-u l = length l.card - l.at
+abbrev pub decreases-loop-head : goal.decreases-loop-head
+decreases-loop-head l = length l.card - l.at
