@@ -9,14 +9,11 @@ use native.Mathlib.Omega.{arith}
 use lib.ListN.{length, get_or, set}
 use lib.Dec.{eqb, ltb}
 use borrow.Author.Tests.{lt-ltb, le-ltb, eq-eqb, ne_eqb, eqb-true, eqb-false, ltb-true, ltb-false}
-use Rattle.std.specs.Prelude.{Result, Ok, Err}
 use Rattle.facts.proofs.Bools.{bools, cases, clash}
 use Rattle.refusal.specs.Refused.{Refused, card, card_refusal, refusal_of}
-use Rattle.refusal.specs.declared.CardGround.{CardGround}
 use Rattle.network.specs.Links.{Links, no_links, with_link}
 use Rattle.network.specs.Card.{Network, network, refused, more, done, turned_back, head_fits, link_fits, head_at, link_at, end_at, step_at, commands, read_card, turned, head_of, links_after, with_links}
 use Rattle.network.specs.Places.{At, whole_link, Opened, Opening, Closing}
-use Rattle.network.specs.declared.card.Head as C
 
 commands_done : (k : ℕ) (s : List ℕ) (answer : Network) → commands k s (done answer) ≡ answer
 unfolding commands
@@ -213,19 +210,6 @@ module _ {s : List ℕ} {at n f : ℕ} {marks : Links} where
           reading = reading_goes l.turn.reading _ _ _ _ (link_goes s at n f marks (omega arith) l.two (omega arith) (later l) k.fits) (omega arith) l.room;
         }
 
-  -- after the last whole link
-  module _ (t : Turn s at n f marks) (r : Result Unit CardGround) (o : Closing s at r) where
-    pub turn_refused : {g : CardGround} → r ≡ Err g → refused (card_refusal g) ≡ read_card s
-    turn_refused {g} e = let step : Closing s at (Err g) = rw e at o in reading_answer t.reading _ (step n f marks)
-
-    pub turn_read : {x : Unit} → r ≡ Ok x → network n f marks ≡ read_card s
-    turn_read {x} e = let step : Closing s at (Ok x) = rw e at o in reading_answer t.reading _ (step n f marks)
-
--- what the head gives: the card's refusal, or the place of the first link
-pub opening_fails : (s : List ℕ) (h : Result C.Head CardGround) (g : CardGround) → h ≡ Err g → Opening s h → length s ≤ 1024 → refused (card_refusal g) ≡ read_card s
-opening_fails s h g e o k = let step : Opening s (Err g) = rw e at o in reading_answer (reading_starts s k) (refused (card_refusal g)) (step no_links)
-
-pub opening_fits : (s : List ℕ) (h : Result C.Head CardGround) (x : C.Head) → h ≡ Ok x → Opening s h → length s ≤ 1024 → (x.n ≤ 8) × At s 3 x.n x.f no_links
-opening_fits s h x e o k =
-    let q : Opened s x.n x.f = rw e at o in
-    (head_most x.n x.f true (sym q.fits) refl, reading_goes (reading_starts s k) 3 x.n x.f no_links (q.step no_links) (omega arith) q.room)
+-- what the head gives: the place of the first link
+pub opening_fits : (s : List ℕ) (n f : ℕ) → Opened s n f → length s ≤ 1024 → (n ≤ 8) × At s 3 n f no_links
+opening_fits s n f q k = (head_most n f true (sym q.fits) refl, reading_goes (reading_starts s k) 3 n f no_links (q.step no_links) (omega arith) q.room)
