@@ -12,16 +12,15 @@ use Prim.Native.Nat.{ℕ, ◌+◌, ◌-◌, ◌*◌, ◌≤◌, ◌<◌}
 use native.Mathlib.Omega.{arith}
 use lib.ListN.{length, set, drop, length-append, length-set}
 use borrow.Author.Tests.{lt-ltb, le-ltb}
+use Rattle.std.specs.Prelude.{Result, Err}
 use Rattle.facts.specs.Laid.{laid}
 use Rattle.facts.proofs.Stores.{laid_append, length_laid, laid_whole}
 use Rattle.refusal.specs.Refused.{refusal_of, call}
 use Rattle.refusal.specs.declared.Refusal.{Refusal}
 use Rattle.network.specs.Links.{Links}
-use Rattle.network.specs.Card.{read_card, head, turned, head_of, links_after}
-use Rattle.network.proofs.Heads.{network_is, refused_of}
+use Rattle.network.specs.Card.{network, refused, read_card}
 use Rattle.printer.specs.Print.{Link, link_bytes, card_bytes, ascending, print_card, clean_card, wrote, unwritten, fitting, print_into, after_print, printed_in}
 use Rattle.printer.specs.Answers.{printed_of, Printing}
-use Rattle.printer.specs.declared.Printed.{Printed}
 
 -- head and links laid leave the buffer as long as it was
 pub laid_long : (old : List ℕ) (n f : ℕ) (xs lent : List ℕ) → lent ≡ laid 3 xs (set (set (set old 0 1) 1 n) 2 f) → length lent ≡ length old
@@ -60,16 +59,12 @@ module _ (n f : ℕ) (links : Links) where
           rw (last, e, whole) (clean_laid old ∙ laid_whole (print_card n f links) old (omega arith))
 
 module _ (s lent : List ℕ) where
-  pub printed_refused : (r : Refusal) → head_of (read_card s) ≡ turned (refusal_of r) → Printing s lent (Printed.Refused r) lent
+  pub printed_refused : (r : Refusal) → refused (refusal_of r) ≡ read_card s → Printing s lent (Err r) lent
   unfolding print_into printed_in
-  printed_refused r e =
-      let q = refused_of (read_card s) (refusal_of r) e in
-      record { answer = rw q refl; bytes = rw q refl }
+  printed_refused r e = record { answer = rw (← e) refl; bytes = rw (← e) refl }
 
-  pub printed_network : (n f : ℕ) (before links : Links) → head_of (read_card s) ≡ head n f → links ≡ links_after (read_card s) before
-      → (r : Printed) (after : List ℕ) → (printed_of r ≡ fitting (print_card n f links) lent) × (after ≡ after_print (printed_of r) (print_card n f links) lent)
+  pub printed_network : (n f : ℕ) (links : Links) → network n f links ≡ read_card s
+      → (r : Result ℕ Refusal) (after : List ℕ) → (printed_of r ≡ fitting (print_card n f links) lent) × (after ≡ after_print (printed_of r) (print_card n f links) lent)
       → Printing s lent r after
   unfolding print_into printed_in clean_card
-  printed_network n f before links e l r after (a, b) =
-      let q = network_is (read_card s) n f before links e l in
-      record { answer = rw q a; bytes = rw (q, ← a) b }
+  printed_network n f links e r after (a, b) = record { answer = rw (← e) a; bytes = rw (← e, ← a) b }

@@ -7,17 +7,8 @@ ghost use Rattle.facts.specs.Laid.{laid};
 ghost use Rattle.printer.specs.Print.{link_bytes, ascending, print_card, fitting, after_print};
 ghost use Rattle.printer.specs.Answers.{printed_of, Printing};
 
-use network::card;
-use network::card::Reading;
+use network::Network;
 use refusal::{CallGround, Refusal};
-
-#[derive(Drop)]
-pub enum Printed {
-    // How many bytes were written.
-    Written { bytes: usize },
-    // The card is refused, or the lent buffer is shorter than the card to be written.
-    Refused(Refusal),
-}
 
 // How many bytes the card of these links has.
 fn card_length(links: [[bool; 8]; 8]) -> usize
@@ -52,33 +43,29 @@ fn write_links(links: [[bool; 8]; 8], lent: &mut [u8])
     }
 }
 
-// The card of this network, if the lent buffer has room for it.
-fn print_network(n: u8, f: u8, links: [[bool; 8]; 8], lent: &mut [u8]) -> Printed
-    ensures { (printed_of result ≡ fitting (print_card n f links) lent.old) × (lent.new ≡ after_print (printed_of result) (print_card n f links) lent.old) }
+// The card of this network, if the lent buffer has room for it; how many bytes were written.
+fn print_network(network: Network, lent: &mut [u8]) -> Result<usize, Refusal>
+    ensures { (printed_of result ≡ fitting (print_card network.n network.f network.links) lent.old) × (lent.new ≡ after_print (printed_of result) (print_card network.n network.f network.links) lent.old) }
 {
     let room = lent.len();
-    let bytes = card_length(links);
+    let bytes = card_length(network.links);
     if room < bytes {
-        return Printed::Refused(Refusal::Call(CallGround::Buffer));
+        return Err(Refusal::Call(CallGround::Buffer));
     }
     lent[0] = 1;
-    lent[1] = n;
-    lent[2] = f;
-    write_links(links, &mut *lent);
+    lent[1] = network.n;
+    lent[2] = network.f;
+    write_links(network.links, &mut *lent);
     let last = bytes - 1;
     lent[last] = 3;
-    Printed::Written { bytes }
+    Ok(bytes)
 }
 
 // Reads the card and writes the clean one: its number of bytes, with the later bytes as they were;
 // or the card's refusal, or that the buffer is too short, with every lent byte as it was.
-pub fn print_card(card: &[u8], lent: &mut [u8]) -> Printed
+pub fn print_card(card: &[u8], lent: &mut [u8]) -> Result<usize, Refusal>
     ensures { Printing card.now lent.old result lent.new }
 {
-    let mut links = [[false; 8]; 8];
-    let reading = card::read_card(card, &mut links);
-    match reading {
-        Reading::Refused(r) => Printed::Refused(r),
-        Reading::Network { n, f } => print_network(n, f, links, &mut *lent),
-    }
+    let network = Network::read(card)?;
+    print_network(network, &mut *lent)
 }
