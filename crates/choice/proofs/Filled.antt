@@ -17,7 +17,7 @@ use borrow.Author.Tests.{eqb-true, eqb-false, leb-true, leb-false}
 use Rattle.facts.proofs.Bools.{cases}
 use Rattle.sets.specs.Sets.{has, single, meet, minus, full, next}
 use Rattle.sets.proofs.Members.{meet_comm, meet_nothing}
-use Rattle.sets.proofs.Apart.{next_apart, next_after, next_least}
+use Rattle.sets.proofs.NextSet.{next_apart, next_after, next_least}
 use Rattle.network.specs.Links.{Links}
 use Rattle.split.specs.Split.{some_below}
 use Rattle.split.specs.Weak.{outside}

@@ -1,13 +1,16 @@
 // A set of servers is one byte: server i stands for 2^i.
 #![tactic(auto)]
 
+pub mod scan;
 mod size_table;
 
-ghost use Rattle.std.specs.Prelude.{◌≡◌, min};
-ghost use Rattle.std.specs.Iterator.{YieldsFirst, item_count};
+ghost use Rattle.std.specs.Prelude.{◌≡◌, ◌+◌, ◌-◌, min};
+ghost use Rattle.std.specs.Iterator.{YieldsFirst, at_most, item_count};
 ghost use Rattle.sets.specs.Members.{members};
+ghost use Rattle.sets.specs.Scan.{Passes};
 ghost use Rattle.sets.specs.Sets.{has, single, full, union, meet, minus, within, size, lowest, next, TableOf};
 
+use crate::scan::SetsApart;
 use crate::size_table::SIZES;
 
 // Server i is in s.
@@ -125,4 +128,32 @@ pub fn ascending(s: u8) -> Servers
     ensures { result.left ≡ s }
 {
     Servers { left: s }
+}
+
+impl Iterator for SetsApart {
+    type Item = u8;
+
+    ghost next_gives = { λ s r t. Passes s.next s.last s.busy r t.next t.last t.busy };
+
+    ghost remaining = { λ s. at_most (s.last + 1 - s.next) };
+
+    fn next(&mut self) -> Option<u8> {
+        if (self.last as u16) < self.next {
+            return None;
+        }
+        let set = self.next as u8;
+        self.next = next_apart(set, self.busy);
+        Some(set)
+    }
+}
+
+// The sets of these servers that have no server of busy, ascending; not the empty one.
+pub fn apart(servers: u8, busy: u8) -> SetsApart
+    ensures { (result.next ≡ next 0 busy) × (result.last ≡ servers) × (result.busy ≡ busy) }
+{
+    SetsApart {
+        next: next_apart(0, busy),
+        last: servers,
+        busy,
+    }
 }

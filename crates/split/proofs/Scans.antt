@@ -15,7 +15,7 @@ use lib.Pow.{pow_pos, pow_mono}
 use borrow.Author.Tests.{le-leb, lt-leb, eq-eqb}
 use Rattle.sets.specs.Sets.{meet, size, union, minus, full, next}
 use Rattle.sets.proofs.Members.{meet_comm, meet_nothing, apart_left, apart_right, union_small}
-use Rattle.sets.proofs.Apart.{next_apart, next_after, next_least, next_small}
+use Rattle.sets.proofs.NextSet.{next_apart, next_after, next_least, next_small}
 use Rattle.network.specs.Links.{Links}
 use Rattle.split.specs.Split.{Split, good, bad, unread, or_else, rest, bad_at, first_from, bad_with_sides, bad_with_faults, first_bad}
 use Rattle.split.specs.Weak.{outside, weak}
