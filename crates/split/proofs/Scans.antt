@@ -1,7 +1,7 @@
 -- The three nested scans of the split test. At each level what is left to scan from here gives the answer of the whole:
 --     Left lim i p later whole   what p gives from i on, or else what is left outside, is the whole answer
 --     left_turn, left_jump, left_done   one number more of the scan, several, and its end: the same laws serve all three levels
---     Scan, Sides, Splits        the invariants of the scans over F, L and R
+--     Scan, Sides, Splits        the invariants of the scans over F, L and R; Going where a scan leads
 -- Assumes nothing.
 use mathlib.Core.Path.{◌≡◌, refl, sym, ap, ◌∙◌}
 use mathlib.Core.Bool.{Bool, true, false}
@@ -19,8 +19,8 @@ use Rattle.sets.proofs.NextSet.{next_apart, next_after, next_least, next_small}
 use Rattle.network.specs.Links.{Links}
 use Rattle.split.specs.Split.{Split, good, bad, unread, or_else, rest, bad_at, first_from, bad_with_sides, bad_with_faults, first_bad}
 use Rattle.split.specs.Weak.{outside, weak}
-use Rattle.split.specs.Sources.{Tables}
-use Rattle.split.proofs.Weakness.{weak_empty, weak_meets, weak_is, no_faults, no_sides, none_empty, none_busy, none_right, bad_here}
+use Rattle.split.specs.Sources.{Sources, outside_rows}
+use Rattle.split.proofs.Weakness.{outside_is, weak_empty, weak_meets, weak_is, no_faults, no_sides, none_empty, none_busy, none_right, bad_here}
 
 abbrev pub Left : ℕ → ℕ → (ℕ → Split) → Split → Split → Type 0
 Left lim i p later whole = or_else (first_from (lim - i) i p) later ≡ whole
@@ -92,9 +92,9 @@ limit_of n servers h e = let w : min n 8 ≡ n = omega arith in let v = rw w at 
 skipped : (b s x : ℕ) → meet s b ≡ 0 → s < x → x < next s b → meet x b ≡ 0 → ⊥
 skipped b s x a h k e = let l = next_least s b x a e h in omega arith
 
-module _ (n f limit : ℕ) (sizes lower upper : List ℕ) where
+module _ (n f limit : ℕ) (rows : List ℕ) where
   abbrev pub Given : Links → Type 0
-  Given links = Tables n links sizes lower upper
+  Given links = Sources n links rows
 
   -- before F = i
   pub record Scan (i : ℕ) : Type 0 where
@@ -111,7 +111,7 @@ module _ (n f limit : ℕ) (sizes lower upper : List ℕ) where
     pub inside : j ≤ limit
     pub some : 0 < j
     pub clear : meet j i ≡ 0
-    pub small : get_or sizes i 0 ≤ f
+    pub small : size i ≤ f
     pub left : (links : Links) → Given links → Left limit j (bad_with_sides n f links i) (beyond limit i (bad_with_faults n f links) good) (first_bad n f links)
 
   -- before R = k, F being i, L being j, and both together busy
@@ -126,9 +126,12 @@ module _ (n f limit : ℕ) (sizes lower upper : List ℕ) where
     pub left : (links : Links) → Given links
         → Left limit k (bad_at n f links i j) (beyond limit j (bad_with_sides n f links i) (beyond limit i (bad_with_faults n f links) good)) (first_bad n f links)
 
-  -- a test that does not look at the links
+  -- whether a set has few neighbours outside F, by the rows
   abbrev pub Tells : Bool → ℕ → ℕ → Type 0
-  Tells b F s = (m : ℕ) (links : Links) → m ≤ 8 → s < 2 ^ m → Tables m links sizes lower upper → b ≡ leb (outside m links F s) f
+  Tells b F s = b ≡ leb (outside_rows rows F s) f
+
+  told : (b : Bool) (F s : ℕ) → Tells b F s → n ≤ 8 → s < 2 ^ n → (links : Links) → Given links → leb (outside n links F s) f ≡ b
+  told b F s t few small links so = sym (t ∙ ap (λ (x : ℕ). leb x f) (outside_is n links rows few so F s small))
 
   pub scan_starts : n ≤ 8 → limit ≡ 2 ^ n → Scan 0
   unfolding first_bad
@@ -144,19 +147,15 @@ module _ (n f limit : ℕ) (sizes lower upper : List ℕ) where
   pub scan_ends : (i : ℕ) → Scan i → limit ≤ i → (links : Links) → Given links → good ≡ first_bad n f links
   scan_ends i s h links so = left_done limit i (bad_with_faults n f links) good (first_bad n f links) (s.left links so) h
 
-  -- the table has the size of F
-  sized : (i : ℕ) → n ≤ 8 → limit ≡ 2 ^ n → i < limit → (links : Links) → Given links → get_or sizes i 0 ≡ size i
-  sized i few e h links so = let m = pow_mono few in so.sized.entry i (omega arith)
-
   module _ (i : ℕ) (s : Scan i) (h : i < limit) where
-    pub scan_past : f < get_or sizes i 0 → Scan (i + 1)
+    pub scan_past : f < size i → Scan (i + 1)
     scan_past q =
         record {
           few = s.few;
           limit_is = s.limit_is;
           inside = omega arith;
           left = λ links so.
-              left_past limit i (bad_with_faults n f links) good (first_bad n f links) (s.left links so) h (no_faults n f links i (lt-leb (size i) f (let e = sized i s.few s.limit_is h links so in omega arith)));
+              left_past limit i (bad_with_faults n f links) good (first_bad n f links) (s.left links so) h (no_faults n f links i (lt-leb (size i) f q));
         }
 
     -- no L before the first set apart from F
@@ -164,7 +163,7 @@ module _ (n f limit : ℕ) (sizes lower upper : List ℕ) where
     too_low links zero q = weak_empty n f links i
     too_low links (suc x) q = weak_meets n f links i (suc x) (λ a. skipped i 0 (suc x) (meet_nothing i) (omega arith) q (meet_comm (suc x) i ∙ a))
 
-    pub sides_start : get_or sizes i 0 ≤ f → (j : ℕ) → j ≡ next 0 i → Sides i j
+    pub sides_start : size i ≤ f → (j : ℕ) → j ≡ next 0 i → Sides i j
     unfolding bad_with_faults
     sides_start q j w =
         let l = s.limit_is in
@@ -225,7 +224,7 @@ module _ (n f limit : ℕ) (sizes lower upper : List ℕ) where
   module _ (i j : ℕ) (s : Sides i j) (h : j < limit) (b : Bool) (t : Tells b i j) where
     side_weak : (links : Links) → Given links → weak n f links i j ≡ b
     side_weak links so =
-        weak_is n f links i j s.some (meet_comm i j ∙ s.clear) ∙ sym (t n links s.few (let l = s.limit_is in omega arith) so)
+        weak_is n f links i j s.some (meet_comm i j ∙ s.clear) ∙ told b i j t s.few (let l = s.limit_is in omega arith) links so
 
     pub sides_past : b ≡ false → (j' : ℕ) → j' ≡ next j i → Sides i j'
     sides_past q j' w =
@@ -273,7 +272,7 @@ module _ (n f limit : ℕ) (sizes lower upper : List ℕ) where
 
     right_weak : (links : Links) → Given links → weak n f links i k ≡ b
     right_weak links so =
-        weak_is n f links i k s.some (meet_comm i k ∙ apart_left n k i j k_small s.clear) ∙ sym (t n links s.sides.few k_small so)
+        weak_is n f links i k s.some (meet_comm i k ∙ apart_left n k i j k_small s.clear) ∙ told b i k t s.sides.few k_small links so
 
     pub splits_past : b ≡ false → (k' : ℕ) → k' ≡ next k busy → Splits i j busy k'
     splits_past q k' w =
@@ -301,13 +300,12 @@ module _ (n f limit : ℕ) (sizes lower upper : List ℕ) where
 
     -- the first bad split
     pub splits_hit : b ≡ true → (servers : ℕ) → servers + 1 ≡ limit → {sound sides c : ℕ} → sound ≡ minus servers i → sides ≡ union j k → c ≡ minus sound sides
-        → {links : Links} → Given links → bad i j c k ≡ first_bad n f links
+        → (links : Links) → Given links → bad i j c k ≡ first_bad n f links
     unfolding rest full
-    splits_hit q servers p1 {sound} {sides} {c} p2 p3 p4 {links} so =
+    splits_hit q servers p1 {sound} {sides} {c} p2 p3 p4 links so =
         let all : servers ≡ full n = let l = s.sides.limit_is in omega arith in
         let v : rest n i j k ≡ c = cc in
-        let e = sized i s.sides.few s.sides.limit_is s.sides.i_inside links so in
-        let few = le-leb (size i) f (let m = s.sides.small in omega arith) in
+        let few = le-leb (size i) f s.sides.small in
         let lr : meet j k ≡ 0 = meet_comm j k ∙ apart_right n k i j k_small s.clear in
         let here : bad_at n f links i j k ≡ bad i j (rest n i j k) k =
         bad_here n f links i j k few (s.weak_l links so) (right_weak links so ∙ q) (eq-eqb (meet j k) 0 lr) in
@@ -315,3 +313,8 @@ module _ (n f limit : ℕ) (sizes lower upper : List ℕ) where
         ap (λ (x : ℕ). bad i j x k) (sym v)
         ∙ ap (λ (x : Split). or_else x (beyond limit k (bad_at n f links i j) (beyond limit j (bad_with_sides n f links i) (beyond limit i (bad_with_faults n f links) good)))) (sym here)
         ∙ all
+
+-- a scan over the sets of these servers that keep clear of b
+pub record Going (servers b last busy : ℕ) : Type 0 where
+  pub to : last ≡ servers
+  pub clear : busy ≡ b

@@ -4,8 +4,8 @@
 --     to-..            the loop of `sources`: the servers below u with a link to v
 --     rows-..          the loop of `source_rows`; rows_has by membership
 --     half-..          what `into_half` computes, and the loop of `half_table`; half_has by membership
---     halves_of        the tables are those of a proper network's links
---     halves_into      the two tables give the servers of V with a link into a set
+--     rows_give        the rows give the servers of V with a link into a set
+--     tables_give      and so do the two tables
 -- Assumes nothing.
 use mathlib.Core.Path.{◌≡◌, refl, sym, ap, ap₂, ◌∙◌}
 use mathlib.Core.Bool.{Bool, true, false, cond, ◌&&◌, ◌||◌, or-false, or_assoc}
@@ -15,7 +15,6 @@ use native.Mathlib.Omega.{arith}
 use lib.ListN.{length, get_or, set, length-set}
 use lib.Seq.{get_or-set_same, get_or-set_other}
 use lib.Dec.{eqb, ltb}
-use lib.Pow.{pow_mono}
 use borrow.Author.Tests.{lt-ltb, le-ltb, eqb-true, eqb-false, ltb-true, ltb-false}
 use Rattle.facts.proofs.Bools.{cases, same}
 use Rattle.sets.specs.Sets.{Set, has, union, single, encode}
@@ -23,7 +22,7 @@ use Rattle.sets.proofs.Members.{has_union, has_single, single_is, has_empty, has
 use Rattle.network.specs.Links.{Links, linked_in}
 use Rattle.network.specs.Proper.{Proper}
 use Rattle.split.specs.Split.{some_below}
-use Rattle.split.specs.Sources.{sources_to, SourceRows, SourcesOf, Sources, row_if, into_half, HalfTable, into_of, Halves}
+use Rattle.split.specs.Sources.{sources_to, SourceRows, SourcesOf, Sources, row_if, into_half, HalfTable, into_rows}
 use Rattle.split.proofs.Neighbours.{some_below_same, none_of}
 
 pub some_below_beyond : (n k : ℕ) (p : Set) → ((i : ℕ) → n ≤ i → p i ≡ false) → some_below (k + n) p ≡ some_below n p
@@ -118,16 +117,12 @@ pub rows_has : (links : Links) (rows : List ℕ) → SourceRows links rows → (
 rows_has links rows r v h u = ap (λ (x : ℕ). has x u) (r v h) ∙ sources_has links v u
 
 -- a proper network has links from servers of V alone
-sources_proper : (n f : ℕ) (links : Links) (rows : List ℕ) → Proper n f links → SourceRows links rows → Sources n links rows
+pub sources_proper : (n f : ℕ) (links : Links) (rows : List ℕ) → Proper n f links → SourceRows links rows → Sources n links rows
 sources_proper n f links rows p r v h u =
     rows_has links rows r v h u
     ∙ cases (linked_in links u v)
     (λ e. let a = p.from u v e in let m = p.most in let x = lt-ltb u 8 (omega arith) in let y = lt-ltb u n a in cc)
     (λ e. cases (ltb u 8) (λ x. cases (ltb u n) (λ y. cc) (λ y. cc)) (λ x. cases (ltb u n) (λ y. cc) (λ y. cc)))
-
-pub halves_of : (n f : ℕ) (links : Links) (rows lower upper : List ℕ) → Proper n f links → SourceRows links rows → HalfTable rows 0 lower → HalfTable rows 4 upper
-    → Halves n links lower upper
-halves_of n f links rows lower upper p r l u = record { rows = rows; sources = sources_proper n f links rows p r; low = l; high = u }
 
 -- into_half
 
@@ -202,30 +197,26 @@ module _ (n : ℕ) (links : Links) (rows : List ℕ) (few : n ≤ 8) (so : Sourc
       none : ltb u n ≡ false → some_below n (λ (v : ℕ). has s v && has (get_or rows v 0) u) ≡ false
       none q = none_of n (λ (v : ℕ). has s v && has (get_or rows v 0) u) (λ i k. let m = so i (omega arith) u in cases (has s i) (λ x. cc) (λ x. cc))
 
-  module _ (lower upper : List ℕ) (low : HalfTable rows 0 lower) (high : HalfTable rows 4 upper) where
-    lower_part : has (get_or lower (s % 16) 0) u ≡ some_below 4 (λ (i : ℕ). has s i && has (get_or rows i 0) u)
-    lower_part =
-        ap (λ (x : ℕ). has x u) (low (s % 16) (omega arith)) ∙ half_has rows 0 (s % 16) u
-        ∙ some_below_same 4 (λ (i : ℕ). has (s % 16) i && has (get_or rows (0 + i) 0) u) (λ (i : ℕ). has s i && has (get_or rows i 0) u)
-        (λ i k. let a = has_mod 4 s i k in let z : 0 + i ≡ i = omega arith in rw z (cc))
+  lower_part : has (into_half rows 0 (s % 16)) u ≡ some_below 4 (λ (i : ℕ). has s i && has (get_or rows i 0) u)
+  lower_part =
+      half_has rows 0 (s % 16) u
+      ∙ some_below_same 4 (λ (i : ℕ). has (s % 16) i && has (get_or rows (0 + i) 0) u) (λ (i : ℕ). has s i && has (get_or rows i 0) u)
+      (λ i k. let a = has_mod 4 s i k in let z : 0 + i ≡ i = omega arith in rw z (cc))
 
-    upper_part : s < 256 → has (get_or upper (s / 16) 0) u ≡ some_below 4 (λ (i : ℕ). has s (4 + i) && has (get_or rows (4 + i) 0) u)
-    upper_part h =
-        ap (λ (x : ℕ). has x u) (high (s / 16) (omega arith)) ∙ half_has rows 4 (s / 16) u
-        ∙ some_below_same 4 (λ (i : ℕ). has (s / 16) i && has (get_or rows (4 + i) 0) u) (λ (i : ℕ). has s (4 + i) && has (get_or rows (4 + i) 0) u)
-        (λ i k. let a = has_div 4 s i in cc)
+  upper_part : has (into_half rows 4 (s / 16)) u ≡ some_below 4 (λ (i : ℕ). has s (4 + i) && has (get_or rows (4 + i) 0) u)
+  upper_part =
+      half_has rows 4 (s / 16) u
+      ∙ some_below_same 4 (λ (i : ℕ). has (s / 16) i && has (get_or rows (4 + i) 0) u) (λ (i : ℕ). has s (4 + i) && has (get_or rows (4 + i) 0) u)
+      (λ i k. let a = has_div 4 s i in cc)
 
-    halves_give : has (union (get_or upper (s / 16) 0) (get_or lower (s % 16) 0)) u ≡ (ltb u n && some_below n (λ (v : ℕ). has s v && linked_in links u v))
-    halves_give =
-        let byte : s < 256 = let m = pow_mono few in omega arith in
-        let a = lower_part in
-        let b = upper_part byte in
-        let c = has_union (get_or upper (s / 16) 0) (get_or lower (s % 16) 0) u in
-        let d = some_below_halves 4 4 (λ (v : ℕ). has s v && has (get_or rows v 0) u) in
-        c ∙ ap₂ (λ (x y : Bool). x || y) b a ∙ sym d ∙ rows_into
+  pub rows_give : has (into_rows rows s) u ≡ (ltb u n && some_below n (λ (v : ℕ). has s v && linked_in links u v))
+  unfolding into_rows
+  rows_give =
+      let d = some_below_halves 4 4 (λ (v : ℕ). has s v && has (get_or rows v 0) u) in
+      has_union (into_half rows 4 (s / 16)) (into_half rows 0 (s % 16)) u ∙ ap₂ (λ (x y : Bool). x || y) upper_part lower_part ∙ sym d ∙ rows_into
 
-pub halves_into : (n : ℕ) (links : Links) (lower upper : List ℕ) → n ≤ 8 → Halves n links lower upper → (s : ℕ) → s < 2 ^ n → (into : ℕ) → into ≡ into_of lower upper s
-    → (u : ℕ) → has into u ≡ (ltb u n && some_below n (λ (v : ℕ). has s v && linked_in links u v))
-unfolding into_of
-halves_into n links lower upper few t s small into e u =
-    ap (λ (x : ℕ). has x u) e ∙ halves_give n links t.rows few t.sources s small u lower upper t.low t.high
+-- into, by the two tables
+
+pub tables_give : (rows lower upper : List ℕ) → HalfTable rows 0 lower → HalfTable rows 4 upper → (s : ℕ) → s < 256 → union (get_or upper (s / 16) 0) (get_or lower (s % 16) 0) ≡ into_rows rows s
+unfolding into_rows
+tables_give rows lower upper low high s h = ap₂ union (high (s / 16) (omega arith)) (low (s % 16) (omega arith))

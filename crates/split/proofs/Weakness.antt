@@ -1,12 +1,13 @@
 -- Why the split test may look at one side at a time: in a split the set that faces a side, with C, is what F and the side leave of V. So the
 -- incoming neighbours that count depend on F and that side alone, and a split is bad exactly if both sides are weak.
---     size_outside   what the code counts is the neighbours outside F
+--     size_outside   what the code counts is the neighbours outside F; outside_is by the rows of sources
 --     weak-..        which sets can be sides
 --     split_weak     a split is bad exactly if F is small, both sides are weak and apart
 --     none-.., no-.. what a failed test says of the splits that are passed over; bad_here what all of them say
 -- Assumes nothing.
 use mathlib.Core.Path.{◌≡◌, refl, sym, ap, ◌∙◌}
 use mathlib.Core.Bool.{true, false, not, ◌&&◌, ◌||◌}
+use mathlib.Core.List.{List}
 use Prim.Native.Nat.{ℕ, ◌+◌, ◌-◌, ◌^◌, ◌≤◌, ◌<◌}
 use native.Mathlib.Omega.{arith}
 use lib.Dec.{eqb, ltb, leb}
@@ -18,6 +19,8 @@ use Rattle.sets.proofs.Counts.{count_same, count_beyond}
 use Rattle.network.specs.Links.{Links, linked_in}
 use Rattle.split.specs.Split.{good, bad, some_below, incoming, held, rest, is_split, is_bad, bad_at, bad_with_sides, bad_with_faults}
 use Rattle.split.specs.Weak.{outside, weak}
+use Rattle.split.specs.Sources.{Sources, into_rows, outside_rows}
+use Rattle.split.proofs.SourceRows.{rows_give}
 use Rattle.split.proofs.Search.{breaks, first_from_all}
 
 module _ (n : ℕ) (links : Links) (few : n ≤ 8) (F s into near out : ℕ)
@@ -40,6 +43,12 @@ module _ (n : ℕ) (links : Links) (few : n ≤ 8) (F s into near out : ℕ)
       ap (λ (m : ℕ). count m (has out)) (sym e)
       ∙ count_beyond n (8 - n) (has out) (λ u h. let t = le-ltb u n h in let w = counted u in cc)
       ∙ count_same n (has out) (λ (u : ℕ). not (has F u) && incoming n links s u) (λ u h. let t = lt-ltb u n h in let w = counted u in cc)
+
+-- what the rows of sources count
+pub outside_is : (n : ℕ) (links : Links) (rows : List ℕ) → n ≤ 8 → Sources n links rows → (F s : ℕ) → s < 2 ^ n → outside_rows rows F s ≡ outside n links F s
+unfolding outside_rows
+outside_is n links rows few so F s small =
+    size_outside n links few F s (into_rows rows s) (minus (into_rows rows s) s) (minus (minus (into_rows rows s) s) F) (rows_give n links rows few so s small) refl refl
 
 module _ (n f : ℕ) (links : Links) (F : ℕ) where
   pub weak_empty : weak n f links F 0 ≡ false

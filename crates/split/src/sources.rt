@@ -1,11 +1,11 @@
 // Who has a link into a set. Two tables hold it, for the sets of the lower four servers and for those of
 // the upper four, so that a scan over many sets looks it up.
-ghost use Rattle.std.specs.Prelude.{◌≡◌, cond, ◌≤◌, ◌<◌};
+ghost use Rattle.std.specs.Prelude.{◌≡◌, cond, ◌≤◌, ◌<◌, leb};
 ghost use Rattle.sets.specs.Sets.{has};
-ghost use Rattle.split.specs.Sources.{sources_to, SourceRows, into_half, HalfTable, into_of};
+ghost use Rattle.split.specs.Sources.{sources_to, SourceRows, into_half, HalfTable, into_rows, outside_rows};
 
 // The servers with a link to v.
-fn sources(links: &[[bool; 8]; 8], v: usize) -> u8
+fn source_row(links: &[[bool; 8]; 8], v: usize) -> u8
     requires { v < 8 }
     ensures { result ≡ sources_to links.now v }
 {
@@ -24,7 +24,7 @@ pub fn source_rows(links: [[bool; 8]; 8]) -> [u8; 8]
 {
     let mut rows = [0u8; 8];
     for v in 0..8usize {
-        let row = sources(&links, v);
+        let row = source_row(&links, v);
         rows[v] = row;
     }
     rows
@@ -66,25 +66,45 @@ fn half_table(rows: [u8; 8], first: usize) -> [u8; 16]
     table
 }
 
-// The servers with a link into the sets of the lower four servers.
-pub fn lower_table(rows: [u8; 8]) -> [u8; 16]
-    ensures { HalfTable rows 0 result }
-{
-    half_table(rows, 0)
+// The sources of a network's servers.
+#[derive(Clone, Copy, Drop)]
+pub struct Sources {
+    // Those of each server.
+    pub rows: [u8; 8],
+    // The servers with a link into the sets of the lower four servers, and of the upper four.
+    pub lower: [u8; 16],
+    pub upper: [u8; 16],
+    ghost low: { HalfTable rows 0 lower },
+    ghost high: { HalfTable rows 4 upper },
 }
 
-// The servers with a link into the sets of the upper four servers.
-pub fn upper_table(rows: [u8; 8]) -> [u8; 16]
-    ensures { HalfTable rows 4 result }
-{
-    half_table(rows, 4)
-}
+impl Sources {
+    pub fn of(links: [[bool; 8]; 8]) -> Sources
+        ensures { SourceRows links result.rows }
+    {
+        let rows = source_rows(links);
+        let lower = half_table(rows, 0);
+        let upper = half_table(rows, 4);
+        Sources { rows, lower, upper }
+    }
 
-// The servers with a link into s, by the two tables.
-pub fn into(lower: &[u8; 16], upper: &[u8; 16], s: u8) -> u8
-    ensures { result ≡ into_of lower.now upper.now s }
-{
-    let low = (s % 16) as usize;
-    let high = (s / 16) as usize;
-    sets::union(upper[high], lower[low])
+    // The servers with a link into s, by the two tables.
+    pub fn linked_into(&self, s: u8) -> u8
+        ensures { result ≡ into_rows self.now.rows s }
+    {
+        let low = (s % 16) as usize;
+        let high = (s / 16) as usize;
+        sets::union(self.upper[high], self.lower[low])
+    }
+
+    // The set s has at most f incoming neighbours outside F: then it can be a side of a bad split,
+    // whatever the other side is.
+    pub fn is_weak(&self, f: u8, fault: u8, s: u8) -> bool
+        ensures { result ≡ leb (outside_rows self.now.rows fault s) f }
+    {
+        let into = self.linked_into(s);
+        let neighbours = sets::minus(into, s);
+        let outside = sets::minus(neighbours, fault);
+        sets::size(outside) <= f
+    }
 }

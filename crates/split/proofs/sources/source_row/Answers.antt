@@ -1,8 +1,8 @@
 use mathlib.Core.Path.{◌∙◌}
 use native.Mathlib.Omega.{arith}
 use Rattle.split.proofs.SourceRows.{to_starts, to_joins, to_passes, to_ends}
-use Rattle.split.proofs.sources.sources.Goals as goal
-use Rattle.split.proofs.sources.sources.Goals.{else-links-u, then-links-u}
+use Rattle.split.proofs.sources.source_row.Goals as goal
+use Rattle.split.proofs.sources.source_row.Goals.{else-links-u, then-links-u}
 
 pub loop-u-init : goal.loop-u-init
 loop-u-init c = (omega arith, to_starts _ _)
