@@ -3,7 +3,7 @@
 --     around_parts     the neighbours of a part cut it off, if they leave others
 --     cut_no_more      whatever separates it from another part has no fewer servers
 --     low_part         whatever separates leaves a part without the last server, and no fewer servers than cut that one off
---     cut_none, cut_some   what the code computes
+--     cut_is           what the rows of sources give; cut_none, cut_some as the code computes it
 -- Assumes nothing.
 use mathlib.Core.Path.{◌≡◌, refl, sym, ap, ◌∙◌}
 use mathlib.Core.Logic.{⊎_elim}
@@ -20,12 +20,12 @@ use Rattle.sets.proofs.Members.{has_minus, has_beyond, pow_double, same_all, top
 use Rattle.sets.proofs.Counts.{count_mono, size_count}
 use Rattle.network.specs.Links.{Links, linked_in}
 use Rattle.split.specs.Split.{some_below, incoming}
-use Rattle.split.specs.Sources.{into_of, Tables}
+use Rattle.split.specs.Sources.{Sources, into_rows}
 use Rattle.split.proofs.Neighbours.{none_at, none_of}
-use Rattle.split.proofs.SourceRows.{halves_into}
+use Rattle.split.proofs.SourceRows.{rows_give}
 use Rattle.condition.proofs.Partitions.{of_member}
 use Rattle.two_way.specs.Separation.{others, parts}
-use Rattle.two_way.specs.Scan.{neighbours, cut_off}
+use Rattle.two_way.specs.Scan.{neighbours, cut_off, cut_rows}
 use Rattle.two_way.specs.Least.{Separates}
 use Rattle.two_way.proofs.Parts.{left_over, others_small, unlinked, parts_separate, Found}
 
@@ -150,30 +150,33 @@ has_around n links L u =
     (λ x. around_has n links L u (ltb-true u n x) ∙ (let y = x in cc))
     (λ x. has_beyond n (neighbours n links L) u (around_small n links L) (ltb-false u n x) ∙ (let y = x in cc))
 
-module _ (n : ℕ) (links : Links) (few : n ≤ 8) (sizes lower upper : List ℕ) (t : Tables n links sizes lower upper) (L into near : ℕ) (small : L < 2 ^ n)
-    (i : into ≡ into_of lower upper L) (e : near ≡ minus into L) where
-  near_has : (u : ℕ) → has (minus into L) u ≡ (ltb u n && incoming n links L u)
+module _ (n : ℕ) (links : Links) (few : n ≤ 8) (rows : List ℕ) (so : Sources n links rows) (L : ℕ) (small : L < 2 ^ n) where
+  near_has : (u : ℕ) → has (minus (into_rows rows L) L) u ≡ (ltb u n && incoming n links L u)
   unfolding incoming
   near_has u =
-      let a = has_minus into L u in
-      let b = halves_into n links lower upper few t.halves L small into i u in
-      cases (ltb u n) (λ x. cases (has L u) (λ y. cases (has into u) (λ z. cc) (λ z. cc)) (λ y. cases (has into u) (λ z. cc) (λ z. cc))) (λ x. cc)
+      let a = has_minus (into_rows rows L) L u in
+      let b = rows_give n links rows few so L small u in
+      cases (ltb u n) (λ x. cases (has L u) (λ y. cases (has (into_rows rows L) u) (λ z. cc) (λ z. cc)) (λ y. cases (has (into_rows rows L) u) (λ z. cc) (λ z. cc))) (λ x. cc)
 
-  pub around_is : near ≡ neighbours n links L
-  around_is = same_all near (neighbours n links L) (λ u. ap (λ (x : ℕ). has x u) e ∙ near_has u ∙ sym (has_around n links L u))
+  around_is : minus (into_rows rows L) L ≡ neighbours n links L
+  around_is = same_all (minus (into_rows rows L) L) (neighbours n links L) (λ u. near_has u ∙ sym (has_around n links L u))
 
-  pub others_are : (servers without rest : ℕ) → servers ≡ full n → without ≡ minus servers near → rest ≡ minus without L → rest ≡ others n (neighbours n links L) L
-  unfolding others
-  others_are servers without rest all w o = o ∙ ap (λ (x : ℕ). minus x L) (w ∙ ap (λ (x : ℕ). minus x near) all ∙ ap (minus (full n)) around_is)
+  pub cut_is : (servers most : ℕ) → servers ≡ full n → cut_rows rows servers most L ≡ cut_off n links most L
+  unfolding cut_rows cut_off others
+  cut_is servers most all = rw (all, around_is) refl
 
-module _ (n : ℕ) (links : Links) (most L rest : ℕ) (o : rest ≡ others n (neighbours n links L) L) where
-  pub cut_none : rest ≡ 0 → most ≡ cut_off n links most L
-  unfolding cut_off
-  cut_none z = let a = eq-eqb (others n (neighbours n links L) L) 0 (sym o ∙ z) in cc
+-- what the code computes
+module _ (rows : List ℕ) (servers most L into near without rest : ℕ) (a : into ≡ into_rows rows L) (b : near ≡ minus into L) (w : without ≡ minus servers near) (o : rest ≡ minus without L) where
+  near_is : near ≡ minus (into_rows rows L) L
+  near_is = b ∙ ap (λ (x : ℕ). minus x L) a
 
-  pub cut_some : (sizes : List ℕ) → TableOf size sizes → (near : ℕ) → near ≡ neighbours n links L → near < 256 → (rest ≡ 0 → ⊥) → get_or sizes near 0 ≡ cut_off n links most L
-  unfolding cut_off
-  cut_some sizes t near e byte z =
-      let a = ne_eqb (others n (neighbours n links L) L) 0 (λ q. z (o ∙ q)) in
-      let b = t.entry near byte in
-      cc
+  rest_is : rest ≡ minus (minus servers (minus (into_rows rows L) L)) L
+  rest_is = o ∙ ap (λ (x : ℕ). minus x L) (w ∙ ap (minus servers) near_is)
+
+  pub cut_none : rest ≡ 0 → most ≡ cut_rows rows servers most L
+  unfolding cut_rows
+  cut_none z = let e = eq-eqb (minus (minus servers (minus (into_rows rows L) L)) L) 0 (sym rest_is ∙ z) in rw e refl
+
+  pub cut_some : (rest ≡ 0 → ⊥) → (k : ℕ) → k ≡ size near → k ≡ cut_rows rows servers most L
+  unfolding cut_rows
+  cut_some z k s = let e = ne_eqb (minus (minus servers (minus (into_rows rows L) L)) L) 0 (λ q. z (rest_is ∙ q)) in rw e (s ∙ ap size near_is)

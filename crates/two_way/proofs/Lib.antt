@@ -5,7 +5,7 @@
 -- Scanned      the scan over the parts
 -- Ruled        the rule's answer, as the code puts it together
 -- Counting     counts of the first so many members of a set, and of the others
--- Rule         the older rule against Theorem 1's condition
+-- OlderRule         the older rule against Theorem 1's condition
 -- Main         what a user relies on
 mod Returns
 mod Parts
@@ -14,5 +14,5 @@ mod Around
 mod Scanned
 mod Ruled
 mod Counting
-mod Rule
+mod OlderRule
 pub mod Main

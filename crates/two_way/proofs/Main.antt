@@ -23,7 +23,7 @@ use Rattle.two_way.specs.Least.{Takes, Least, Agrees}
 use Rattle.two_way.proofs.Returns.{no_one_way, two_way}
 use Rattle.two_way.proofs.Parts.{least_away}
 use Rattle.two_way.proofs.Ruled.{rule_both, rule_servers, rule_away, quick_one_way, quick_ruled}
-use Rattle.two_way.proofs.Rule.{rule_condition, condition_apart}
+use Rattle.two_way.proofs.OlderRule.{rule_condition, condition_apart}
 
 -- the rule's two numbers, and the condition
 module _ (n f : ℕ) (links : Links) (p : Proper n f links) (back : one_way n links ≡ false) where

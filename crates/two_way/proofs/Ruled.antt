@@ -1,6 +1,6 @@
 -- The rule's answer, as the code puts it together.
 --     rule-..     the two numbers
---     quick-..    the answer for a network; refused_quick, network_quick for a card
+--     quick-..    the answer for a network
 -- Assumes nothing.
 use mathlib.Core.Path.{◌≡◌, sym, ap}
 use mathlib.Core.Bool.{Bool, true, false}
@@ -9,13 +9,11 @@ use Prim.Native.Nat.{ℕ, ◌≤◌, ◌<◌}
 use lib.Dec.{leb}
 use borrow.Author.Tests.{le-leb, lt-leb, leb-true}
 use Rattle.facts.proofs.Bools.{and_left, and_right, both}
-use Rattle.refusal.specs.Refused.{Refused, call}
+use Rattle.refusal.specs.Refused.{call}
 use Rattle.network.specs.Links.{Links}
-use Rattle.network.specs.Card.{network, read_card, head, head_of, links_after}
-use Rattle.network.specs.Card as Card
-use Rattle.network.proofs.Heads.{refused_of, network_is}
+use Rattle.network.specs.Card.{network}
 use Rattle.two_way.specs.Separation.{one_way, connectivity}
-use Rattle.two_way.specs.Quick.{ruled, turned, servers_wanted, away_wanted, older_rule, quick_of, quick_test}
+use Rattle.two_way.specs.Quick.{ruled, turned, servers_wanted, away_wanted, older_rule, quick_of}
 
 module _ (n f least : ℕ) where
   pub rule_short : n < servers_wanted f → false ≡ older_rule n f least
@@ -44,12 +42,3 @@ module _ (n f : ℕ) (links : Links) where
 
   pub quick_ruled : one_way n links ≡ false → (least : ℕ) → least ≡ connectivity n links → (holds : Bool) → holds ≡ older_rule n f least → ruled holds n least ≡ quick_of (network n f links)
   quick_ruled e least l holds h = cc
-
-pub refused_quick : (s : List ℕ) (r : Refused) → head_of (read_card s) ≡ Card.turned r → turned r ≡ quick_test s
-unfolding quick_test
-refused_quick s r e = ap quick_of (sym (refused_of (read_card s) r e))
-
-pub network_quick : (s : List ℕ) (n f : ℕ) (lent links : Links) → head_of (read_card s) ≡ head n f → links ≡ links_after (read_card s) lent
-    → quick_of (network n f links) ≡ quick_test s
-unfolding quick_test
-network_quick s n f lent links e q = ap quick_of (sym (network_is (read_card s) n f lent links e q))

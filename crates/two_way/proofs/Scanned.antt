@@ -16,12 +16,12 @@ use Rattle.facts.proofs.Bools.{cases}
 use Rattle.sets.specs.Sets.{full, size}
 use Rattle.sets.proofs.Members.{pow_double}
 use Rattle.network.specs.Links.{Links, linked_in}
-use Rattle.split.specs.Sources.{Tables}
+use Rattle.split.specs.Sources.{Sources}
 use Rattle.two_way.specs.Separation.{others, separable, connectivity}
-use Rattle.two_way.specs.Scan.{neighbours, cut_off}
+use Rattle.two_way.specs.Scan.{neighbours, cut_off, cut_rows}
 use Rattle.two_way.proofs.Parts.{parts_separable, separable_found, connectivity_is}
 use Rattle.two_way.proofs.Linked.{all_of}
-use Rattle.two_way.proofs.Around.{around_small, around_parts, low_part}
+use Rattle.two_way.proofs.Around.{around_small, around_parts, low_part, cut_is}
 
 -- each link has a return
 abbrev pub Back : Links → Type 0
@@ -73,7 +73,7 @@ searched_ends (suc m) links least part two few most s h =
     connectivity_is (suc m) links least most s.met
     (λ j e. let w = low_part m links few j (suc m - 1) (separable_found (suc m) links j e) in let p = s.passed w.part w.some (let l = w.low in omega arith) in let q = w.few in omega arith)
 
-pub record Scan (n : ℕ) (sizes lower upper : List ℕ) (servers half most least part : ℕ) : Type 0 where
+pub record Scan (n : ℕ) (rows : List ℕ) (servers half most least part : ℕ) : Type 0 where
   pub two : 2 ≤ n
   pub few : n ≤ 8
   pub servers_are : servers ≡ full n
@@ -82,7 +82,7 @@ pub record Scan (n : ℕ) (sizes lower upper : List ℕ) (servers half most leas
   pub some : 0 < part
   pub inside : part ≤ half
   pub bound : least ≤ most
-  pub so : (links : Links) → Back links → Tables n links sizes lower upper → Searched n links least part
+  pub so : (links : Links) → Back links → Sources n links rows → Searched n links least part
 
 -- half of the 2^n sets do not have the last server
 half_of : (n servers half : ℕ) → 2 ≤ n → servers ≡ full n → half ≡ servers / 2 + 1 → 2 * half ≡ 2 ^ n
@@ -90,8 +90,8 @@ unfolding full
 half_of zero servers half two e h = absurd (omega arith)
 half_of (suc m) servers half two e h = let p = pow_double m in let q = pow_pos m in omega arith
 
-module _ (n : ℕ) (sizes lower upper : List ℕ) (servers half most : ℕ) where
-  pub scan_starts : 2 ≤ n → n ≤ 8 → servers ≡ full (min n 8) → half ≡ servers / 2 + 1 → most ≡ n - 1 → Scan n sizes lower upper servers half most most 1
+module _ (n : ℕ) (rows : List ℕ) (servers half most : ℕ) where
+  pub scan_starts : 2 ≤ n → n ≤ 8 → servers ≡ full (min n 8) → half ≡ servers / 2 + 1 → most ≡ n - 1 → Scan n rows servers half most most 1
   scan_starts two few e h m =
       let all = all_of n servers few e in
       let double = half_of n servers half two all h in
@@ -107,21 +107,21 @@ module _ (n : ℕ) (sizes lower upper : List ℕ) (servers half most : ℕ) wher
         so = λ links back t. rw (← m) at (searched_starts n links);
       }
 
-  -- what the code says of a part, for all links that the tables are those of
+  -- how many servers cut a part off, by the rows
   abbrev pub Tells : ℕ → ℕ → Type 0
-  Tells taken part = (m : ℕ) (links : Links) → m ≤ 8 → part < 2 ^ m → servers ≡ full m → Tables m links sizes lower upper → taken ≡ cut_off m links most part
+  Tells taken part = taken ≡ cut_rows rows servers most part
 
-  module _ (least part taken : ℕ) (s : Scan n sizes lower upper servers half most least part) (h : part < half) (t : Tells taken part) where
+  module _ (least part taken : ℕ) (s : Scan n rows servers half most least part) (h : part < half) (t : Tells taken part) where
     small : part < 2 ^ n
     small = let a = s.half_is in omega arith
 
-    told : (links : Links) → Tables n links sizes lower upper → taken ≡ cut_off n links (n - 1) part
-    told links tables = t n links s.few small s.servers_are tables ∙ ap (λ (m : ℕ). cut_off n links m part) s.most_is
+    told : (links : Links) → Sources n links rows → taken ≡ cut_off n links (n - 1) part
+    told links so = t ∙ cut_is n links s.few rows so part small servers most s.servers_are ∙ ap (λ (m : ℕ). cut_off n links m part) s.most_is
 
     most_so : least ≤ n - 1
     most_so = let a = s.bound in let b = s.most_is in omega arith
 
-    pub scan_less : taken < least → Scan n sizes lower upper servers half most taken (part + 1)
+    pub scan_less : taken < least → Scan n rows servers half most taken (part + 1)
     scan_less q =
         let b = s.bound in
         record {
@@ -136,7 +136,7 @@ module _ (n : ℕ) (sizes lower upper : List ℕ) (servers half most : ℕ) wher
           so = λ links back tables. searched_less n links back least part taken (s.so links back tables) s.some small (told links tables) most_so q;
         }
 
-    pub scan_kept : least ≤ taken → Scan n sizes lower upper servers half most least (part + 1)
+    pub scan_kept : least ≤ taken → Scan n rows servers half most least (part + 1)
     scan_kept q =
         record {
           two = s.two;
@@ -150,12 +150,12 @@ module _ (n : ℕ) (sizes lower upper : List ℕ) (servers half most : ℕ) wher
           so = λ links back tables. searched_kept n links back least part taken (s.so links back tables) s.some small (told links tables) q;
         }
 
-    pub scan_nothing : taken ≡ 0 → (links : Links) → Back links → Tables n links sizes lower upper → 0 ≡ connectivity n links
+    pub scan_nothing : taken ≡ 0 → (links : Links) → Back links → Sources n links rows → 0 ≡ connectivity n links
     scan_nothing z links back tables =
         searched_nothing n links back least part taken (s.so links back tables) s.some small (told links tables) s.two z
 
-  pub scan_ends : (least part : ℕ) → Scan n sizes lower upper servers half most least part → half ≤ part
-      → (links : Links) → Back links → Tables n links sizes lower upper → least ≡ connectivity n links
+  pub scan_ends : (least part : ℕ) → Scan n rows servers half most least part → half ≤ part
+      → (links : Links) → Back links → Sources n links rows → least ≡ connectivity n links
   scan_ends least part s h links back tables =
       let a = s.half_is in
       let b = s.bound in

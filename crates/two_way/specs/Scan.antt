@@ -3,10 +3,11 @@
 --     unlike rows sources      == some server has other links than it has sources
 --     every_linked n sources    == each server of V has, with itself, all servers of V for its sources
 --     neighbours n links L     == the servers outside L with a link into it, as a number
---     cut_off n links most L    == how many they are; `most` if they leave no others
+--     cut_off n links most L    == how many they are; `most` if they leave no others; cut_rows from the rows of sources
 use Rattle.std.specs.Prelude.{Bool, cond, not, List, ℕ, eqb, get_or}
-use Rattle.sets.specs.Sets.{single, union, full, encode, size}
+use Rattle.sets.specs.Sets.{single, union, minus, full, encode, size}
 use Rattle.network.specs.Links.{Links}
+use Rattle.split.specs.Sources.{into_rows}
 use Rattle.split.specs.Split.{some_below, incoming}
 use Rattle.two_way.specs.Separation.{others}
 
@@ -21,3 +22,9 @@ neighbours n links L = encode n (incoming n links L)
 
 unfoldable pub cut_off : ℕ → Links → ℕ → ℕ → ℕ
 cut_off n links most L = cond (eqb (others n (neighbours n links L) L) 0) most (size (neighbours n links L))
+
+-- the same from the rows of sources
+unfoldable pub cut_rows : List ℕ → (servers most L : ℕ) → ℕ
+cut_rows rows servers most L =
+    let near = minus (into_rows rows L) L in
+    cond (eqb (minus (minus servers near) L) 0) most (size near)

@@ -2,28 +2,25 @@
 // at least 2f + 1 servers must be taken away before the rest falls apart.
 #![tactic(auto)]
 
-ghost use Rattle.std.specs.Prelude.{◌≡◌, false, ℕ, ◌^◌, ◌≤◌, ◌<◌};
-ghost use Rattle.sets.specs.Sets.{full};
-ghost use Rattle.network.specs.Links.{Links};
-ghost use Rattle.network.specs.Card.{network};
-ghost use Rattle.network.specs.Proper.{Proper};
-ghost use Rattle.split.specs.Sources.{SourceRows, Tables};
+ghost use Rattle.std.specs.Prelude.{◌≡◌, false, ◌≤◌};
+ghost use Rattle.network.specs.Card.{network as card_network};
+ghost use Rattle.split.specs.Sources.{SourceRows};
 ghost use Rattle.two_way.specs.Separation.{one_way, connectivity};
-ghost use Rattle.two_way.specs.Scan.{unlike, every_linked, cut_off};
+ghost use Rattle.two_way.specs.Scan.{unlike, every_linked, cut_rows};
 ghost use Rattle.two_way.specs.Quick.{older_rule, quick_of, quick_test};
 ghost use Rattle.two_way.specs.Answers.{quick_answer_of};
 
-use network::card::Reading;
-use network::{card, links};
+use network::{Network, links};
 use refusal::{CallGround, Refusal};
-use split::sources;
+use split::sources::Sources;
 
-#[derive(Drop)]
-pub enum QuickAnswer {
-    // Whether the rule holds, n, and the least number of servers to be taken away.
-    Rule { holds: bool, n: u8, least: u8 },
-    // The card is refused, or some link has no return.
-    Refused(Refusal),
+// What the older rule says of a site.
+#[derive(Clone, Copy, Drop)]
+pub struct Rule {
+    pub holds: bool,
+    pub n: u8,
+    // The least number of servers to be taken away before the rest falls apart.
+    pub least: u8,
 }
 
 // Some server has other links than it has sources.
@@ -55,44 +52,34 @@ fn every_linked(n: u8, sources: [u8; 8]) -> bool
 }
 
 // How many servers cut the part off from the others: its neighbours; `most` if these leave no others.
-fn cut_off(
-    sizes: &[u8; 256],
-    lower: &[u8; 16],
-    upper: &[u8; 16],
-    servers: u8,
-    most: u8,
-    part: u8,
-) -> u8
-    ensures { (n : ℕ) (links : Links) → n ≤ 8 → part < 2 ^ n → servers ≡ full n → Tables n links sizes.now lower.now upper.now → result ≡ cut_off n links most part }
+fn cut_off(sources: &Sources, servers: u8, most: u8, part: u8) -> u8
+    ensures { result ≡ cut_rows sources.now.rows servers most part }
 {
-    let into = sources::into(lower, upper, part);
+    let into = sources.linked_into(part);
     let neighbours = sets::minus(into, part);
     let without = sets::minus(servers, neighbours);
     let others = sets::minus(without, part);
     if others == 0 {
         return most;
     }
-    sizes[neighbours as usize]
+    sets::size(neighbours)
 }
 
 // The least number of servers to be taken away before the rest falls apart. Of the two parts into
 // which it falls one does not have the last server, so the sets of the other servers are enough.
-fn least_taken(n: u8, sources: [u8; 8]) -> u8
-    requires { 2 ≤ n × n ≤ 8 }
-    ensures { (f : ℕ) (links : Links) → Proper n f links → one_way n links ≡ false → SourceRows links sources → result ≡ connectivity n links }
+fn least_taken(network: Network, sources: &Sources) -> u8
+    requires { (one_way network.n network.links ≡ false) × SourceRows network.links sources.now.rows }
+    ensures { result ≡ connectivity network.n network.links }
 {
-    let most = n - 1;
-    if every_linked(n, sources) {
+    let most = network.n - 1;
+    if every_linked(network.n, sources.rows) {
         return most;
     }
-    let lower = sources::lower_table(sources);
-    let upper = sources::upper_table(sources);
-    let sizes = sets::sizes();
-    let servers = sets::full(n);
+    let servers = sets::full(network.n);
     let half = servers / 2 + 1;
     let mut least = most;
     for part in 1..half {
-        let taken = cut_off(&sizes, &lower, &upper, servers, most, part);
+        let taken = cut_off(sources, servers, most, part);
         // no number is less
         if taken == 0 {
             return 0;
@@ -120,28 +107,26 @@ fn older_rule(n: u8, f: u8, least: u8) -> bool
 }
 
 // The rule's answer for a network, or refusal 15.
-fn by_rule(n: u8, f: u8, links: [[bool; 8]; 8]) -> QuickAnswer
-    requires { Proper n f links }
-    ensures { quick_answer_of result ≡ quick_of (network n f links) }
+fn by_rule(network: Network) -> Result<Rule, Refusal>
+    ensures { quick_answer_of result ≡ quick_of (card_network network.n network.f network.links) }
 {
-    let rows = links::rows(links);
-    let sources = sources::source_rows(links);
-    if unlike(rows, sources) {
-        return QuickAnswer::Refused(Refusal::Call(CallGround::OneWay));
+    let rows = links::rows(network.links);
+    let sources = Sources::of(network.links);
+    if unlike(rows, sources.rows) {
+        return Err(Refusal::Call(CallGround::OneWay));
     }
-    let least = least_taken(n, sources);
-    let holds = older_rule(n, f, least);
-    QuickAnswer::Rule { holds, n, least }
+    let least = least_taken(network, &sources);
+    let holds = older_rule(network.n, network.f, least);
+    Ok(Rule {
+        holds,
+        n: network.n,
+        least,
+    })
 }
 
 // The quick test: the older rule's answer for the card's network, the card's refusal, or 15.
-pub fn quick_test(card: &[u8]) -> QuickAnswer
+pub fn quick_test(card: &[u8]) -> Result<Rule, Refusal>
     ensures { quick_answer_of result ≡ quick_test card.now }
 {
-    let mut links = [[false; 8]; 8];
-    let reading = card::read_card(card, &mut links);
-    match reading {
-        Reading::Refused(r) => QuickAnswer::Refused(r),
-        Reading::Network { n, f } => by_rule(n, f, links),
-    }
+    by_rule(Network::read(card)?)
 }

@@ -4,14 +4,17 @@ use Rattle.two_way.specs.Separation.{one_way}
 use Rattle.two_way.proofs.Returns.{unlike_is}
 use Rattle.two_way.proofs.Ruled.{quick_one_way, quick_ruled}
 use Rattle.two_way.proofs.by_rule.Goals as goal
+use Rattle.two_way.proofs.by_rule.Goals.{After-unlike}
+
+-- what is compared is whether some link has no return
+compared : (c : After-unlike) → c.unlike.result ≡ one_way c.args.network.n c.args.network.links
+compared c = c.unlike.ensures ∙ unlike_is _ _ _ c.args.network.proper _ _ c.rows-rows.ensures c.of-sources.ensures
 
 pub returns-then-unlike : goal.returns-then-unlike
-returns-then-unlike c =
-    let compared : (c.unlike.result ≡ one_way c.args.n c.args.links) = c.unlike.ensures ∙ unlike_is _ _ _ c.requires _ _ c.rows-rows.ensures c.source_rows-sources.ensures in
-    quick_one_way _ _ _ (sym compared ∙ c.if-unlike.true)
+returns-then-unlike c = quick_one_way _ _ _ (sym (compared (goal.at.returns-then-unlike c).After-unlike) ∙ c.if-unlike.true)
+
+pub least_taken-least-requires : goal.least_taken-least-requires
+least_taken-least-requires c = (sym (compared (goal.at.least_taken-least-requires c).After-unlike) ∙ c.if-unlike.false, c.of-sources.ensures)
 
 pub returns : goal.returns
-returns c =
-    let compared : (c.unlike.result ≡ one_way c.args.n c.args.links) = c.unlike.ensures ∙ unlike_is _ _ _ c.requires _ _ c.rows-rows.ensures c.source_rows-sources.ensures in
-    let back = sym compared ∙ c.if-unlike.false in
-    quick_ruled _ _ _ back _ (c.least_taken-least.ensures _ _ c.requires back c.source_rows-sources.ensures) _ c.older_rule-holds.ensures
+returns c = quick_ruled _ _ _ (sym (compared (goal.at.returns c).After-unlike) ∙ c.if-unlike.false) _ c.least_taken-least.ensures _ c.older_rule-holds.ensures

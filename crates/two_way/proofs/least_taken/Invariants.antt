@@ -4,4 +4,4 @@ use Rattle.two_way.proofs.Scanned.{Scan}
 use Rattle.two_way.proofs.least_taken.Given as goal
 
 abbrev pub invariant-loop-part : goal.invariant-loop-part
-invariant-loop-part l = Scan l.n l.sizes l.lower l.upper l.servers l.half l.most l.least l.part
+invariant-loop-part l = Scan l.fn.network.n l.sources.rows l.servers l.half l.most l.least l.part
