@@ -24,442 +24,264 @@
 
 ghost use Rattle.std.specs.Prelude.{◌≤◌, length, IfOk};
 
+use std::alloc::{AllocError, Global};
 use std::io;
 use std::io::Read;
 
-// A byte as a number below 256, which the sums of part_length ask.
-fn wide(x: u8) -> usize
-    ensures { result ≤ 255 }
-{
-    x as usize
+// What is left of the cases; its parts are taken from the front.
+#[derive(Drop)]
+struct Parts<'a> {
+    rest: &'a [u8],
 }
 
-// The length of the part that starts here.
-fn part_length(s: &[u8]) -> usize
+impl<'a> Parts<'a> {
+    // The next part, or what is there of it.
+    fn take(&mut self) -> &'a [u8]
+        ensures { length self.new.rest.now ≤ length self.old.rest.now }
+    {
+        let rest = self.rest;
+        if rest.len() < 3 {
+            self.rest = &rest[..0];
+            return &rest[..0];
+        }
+        let length = number(rest).min(rest.len() - 3);
+        self.rest = &rest[3 + length..];
+        &rest[3..3 + length]
+    }
+
+    // The next part's first byte; 0 where the part is empty.
+    fn take_byte(&mut self) -> u8
+        ensures { length self.new.rest.now ≤ length self.old.rest.now }
+    {
+        self.take().first().copied().unwrap_or(0)
+    }
+}
+
+// The number of three bytes at the front, high byte first; 0 where there are not so many.
+fn number(s: &[u8]) -> usize
     ensures { result ≤ 16777215 }
 {
-    if s.len() < 3 {
-        return 0;
+    match s {
+        [high, middle, low, ..] => {
+            usize::from(*high) * 65536 + usize::from(*middle) * 256 + usize::from(*low)
+        }
+        _ => 0,
     }
-    let high = wide(s[0]);
-    let middle = wide(s[1]);
-    let low = wide(s[2]);
-    high * 65536 + middle * 256 + low
 }
 
-// The part that starts here, or what is there of it.
-fn part(s: &[u8]) -> &[u8]
-    ensures { length result.now ≤ length s.now }
-{
-    if s.len() < 3 {
-        return &s[0..0];
-    }
-    let n = part_length(s);
-    let left = s.len() - 3;
-    if left < n {
-        return &s[3..];
-    }
-    &s[3..3 + n]
-}
-
-// What follows the part that starts here.
-fn after(s: &[u8]) -> &[u8]
-    ensures { length result.now ≤ length s.now }
-{
-    if s.len() < 3 {
-        return &s[0..0];
-    }
-    let n = part_length(s);
-    let left = s.len() - 3;
-    if left < n {
-        return &s[0..0];
-    }
-    &s[3 + n..]
-}
-
-fn print_word(rt: &impl Print, x: u64) -> io::Result<()> {
-    print!(rt; "{x} ")
-}
-
-fn print_byte(rt: &impl Print, x: u8) -> io::Result<()> {
-    print_word(rt, x as u64)
-}
-
-fn print_words(rt: &impl Print, words: [u64; 4]) -> io::Result<()> {
-    for word in &words {
-        print_word(rt, *word)?;
-    }
-    Ok(())
-}
-
-fn print_six(rt: &impl Print, words: [u64; 6]) -> io::Result<()> {
-    for word in &words {
-        print_word(rt, *word)?;
+// Words or bytes, each with a space after it.
+fn print_words(rt: &impl Print, words: &[u64]) -> io::Result<()> {
+    for word in words {
+        print!(rt; "{word} ")?;
     }
     Ok(())
 }
 
 fn print_bytes(rt: &impl Print, bytes: &[u8]) -> io::Result<()> {
     for byte in bytes {
-        print_byte(rt, *byte)?;
+        print!(rt; "{byte} ")?;
     }
     Ok(())
-}
-
-fn end_line(rt: &impl Print) -> io::Result<()> {
-    println!(rt)
 }
 
 fn card_case(rt: &impl Print, card: &[u8]) -> io::Result<()> {
     let mut answer = [9u64; 12];
     agreement::agreement_read_card(card, &mut answer);
-    for word in &answer {
-        print_word(rt, *word)?;
-    }
-    end_line(rt)
+    print_words(rt, &answer)
 }
 
 fn split_case(rt: &impl Print, card: &[u8]) -> io::Result<()> {
     let mut answer = [9u64; 5];
     agreement::agreement_split_test(card, &mut answer);
-    for word in &answer {
-        print_word(rt, *word)?;
-    }
-    end_line(rt)
+    print_words(rt, &answer)
 }
 
 fn quick_case(rt: &impl Print, card: &[u8]) -> io::Result<()> {
     let mut answer = [9u64; 4];
     agreement::agreement_quick_test(card, &mut answer);
-    print_words(rt, answer)?;
-    end_line(rt)
+    print_words(rt, &answer)
 }
 
 fn plan_case(rt: &impl Print, card: &[u8], plan: &[u8]) -> io::Result<()> {
     let mut answer = [9u64; 4];
     agreement::agreement_check_plan(card, plan, &mut answer);
-    print_words(rt, answer)?;
-    end_line(rt)
+    print_words(rt, &answer)
 }
 
-// The bytes of the plan that was written.
-fn front(lent: &[u8], bytes: u64) -> &[u8] {
-    let n = bytes as usize;
-    if lent.len() < n {
-        return &lent[0..0];
-    }
-    &lent[0..n]
+// So many lent bytes.
+fn lent(alloc: Global, size: usize) -> Result<Vec<u8>, AllocError> {
+    Ok(vec![in alloc; 165u8; size]?)
 }
 
-fn write_into(rt: &impl Print, card: &[u8], lent: &mut [u8]) -> io::Result<()> {
+fn write_case(rt: &impl Print, alloc: Global, card: &[u8]) -> io::Result<()> {
     let mut answer = [9u64; 8];
-    agreement::agreement_write_plan(card, &mut *lent, &mut answer);
-    print_words(rt, [answer[0], answer[1], answer[2], answer[3]])?;
-    print_words(rt, [answer[4], answer[5], answer[6], answer[7]])?;
+    let mut lent = lent(alloc, 300_000)?;
+    agreement::agreement_write_plan(card, &mut lent, &mut answer);
+    print_words(rt, &answer)?;
     if answer[0] == 0 {
-        return plan_case(rt, card, front(&lent[..], answer[1]));
+        let bytes = answer[1] as usize;
+        plan_case(rt, card, lent.get(..bytes).unwrap_or(&[]))?;
     }
-    end_line(rt)
-}
-
-// Apart from write_case, so that no proof writes out all the bytes.
-fn write_within(rt: &impl Print, card: &[u8], lent: &mut [u8; 300000]) -> io::Result<()> {
-    write_into(rt, card, &mut *lent)
-}
-
-fn write_case(rt: &impl Print, card: &[u8]) -> io::Result<()> {
-    let mut lent = [165u8; 300000];
-    write_within(rt, card, &mut lent)
+    Ok(())
 }
 
 fn load_case(rt: &impl Print, card: &[u8], plan: &[u8]) -> io::Result<()> {
     let mut answer = [9u64; 9];
     agreement::agreement_load(card, plan, &mut answer);
-    for word in &answer {
-        print_word(rt, *word)?;
-    }
-    end_line(rt)
+    print_words(rt, &answer)
 }
 
 // The site is V−F, the eight rows of links, the sources and the receiver, a byte each.
 fn route_case(rt: &impl Print, site: &[u8], operand: &[u8]) -> io::Result<()> {
-    if 11 <= site.len() {
-        let rows = [
-            site[1], site[2], site[3], site[4], site[5], site[6], site[7], site[8],
-        ];
-        let set = route::check_route(site[0], &rows, site[9], site[10], operand);
-        let servers = route::route_part(site[0], &rows, site[9], site[10], operand);
-        print_byte(rt, set)?;
+    if let [sound, a, b, c, d, e, f, g, h, sources, receiver, ..] = site {
+        let rows = [*a, *b, *c, *d, *e, *f, *g, *h];
+        let set = route::check_route(*sound, &rows, *sources, *receiver, operand);
+        let servers = route::route_part(*sound, &rows, *sources, *receiver, operand);
+        print_bytes(rt, &[set])?;
         print_bytes(rt, servers)?;
     }
-    end_line(rt)
+    Ok(())
 }
 
-// The faulty set; 0 where the part is empty.
-fn first_byte(s: &[u8]) -> u8 {
-    if s.len() == 0 {
-        return 0;
-    }
-    s[0]
-}
-
-// How many bytes are lent: as many as the part has, and at most 256.
-fn lent_size(s: &[u8]) -> usize
-    ensures { result ≤ 256 }
-{
-    if 256 < s.len() {
-        return 256;
-    }
-    s.len()
-}
-
-fn print_into(rt: &impl Print, card: &[u8], lent: &mut [u8]) -> io::Result<()> {
+fn print_case(rt: &impl Print, alloc: Global, card: &[u8], buffer: &[u8]) -> io::Result<()> {
     let mut answer = [9u64; 4];
-    agreement::agreement_print_card(card, &mut *lent, &mut answer);
-    print_words(rt, answer)?;
-    print_bytes(rt, &lent[..])?;
-    end_line(rt)
+    let mut lent = lent(alloc, buffer.len().min(256))?;
+    agreement::agreement_print_card(card, &mut lent, &mut answer);
+    print_words(rt, &answer)?;
+    print_bytes(rt, &lent)
 }
 
-fn print_case(rt: &impl Print, card: &[u8], buffer: &[u8]) -> io::Result<()> {
-    let mut lent = [165u8; 256];
-    let size = lent_size(buffer);
-    print_into(rt, card, &mut lent[..size])
-}
-
-fn run_into(
+fn run_case(
     rt: &impl Print,
+    alloc: Global,
     card: &[u8],
     plan: &[u8],
     inputs: &[u8],
     faulty: u8,
     table: &[u8],
-    lent: &mut [u8],
-) -> io::Result<()> {
-    let mut answer = [9u64; 4];
-    agreement::agreement_run(card, plan, inputs, faulty, table, &mut *lent, &mut answer);
-    print_words(rt, answer)?;
-    print_bytes(rt, &lent[..])?;
-    end_line(rt)
-}
-
-fn run_case(
-    rt: &impl Print,
-    card: &[u8],
-    plan: &[u8],
-    inputs: &[u8],
-    faulty: &[u8],
-    table: &[u8],
     buffer: &[u8],
 ) -> io::Result<()> {
-    let mut lent = [165u8; 256];
-    let set = first_byte(faulty);
-    let size = lent_size(buffer);
-    run_into(rt, card, plan, inputs, set, table, &mut lent[..size])
+    let mut answer = [9u64; 4];
+    let mut lent = lent(alloc, buffer.len().min(256))?;
+    agreement::agreement_run(card, plan, inputs, faulty, table, &mut lent, &mut answer);
+    print_words(rt, &answer)?;
+    print_bytes(rt, &lent)
 }
 
+// What rehearse prints has its own line ends.
 fn transcript_case(rt: &impl Print, card: &[u8], plan: &[u8], run_in: &[u8]) -> io::Result<()> {
     let mut text = [0u8; 1000];
     let length = transcript::rehearse(card, plan, run_in, &mut text);
     rt.write_all(&text[..length])
 }
 
-fn start_case(
-    rt: &impl Print,
-    card: &[u8],
-    plan: &[u8],
-    server: &[u8],
-    input: &[u8],
-) -> io::Result<()> {
+fn start_case(rt: &impl Print, card: &[u8], plan: &[u8], server: u8, input: u8) -> io::Result<()> {
     let mut answer = [9u64; 6];
-    agreement::agreement_start(
-        card,
-        plan,
-        first_byte(server),
-        first_byte(input),
-        &mut answer,
-    );
-    print_six(rt, answer)?;
-    end_line(rt)
+    agreement::agreement_start(card, plan, server, input, &mut answer);
+    print_words(rt, &answer)
 }
 
-fn state_word(state: &[u8]) -> u64 {
-    part_length(state) as u64
-}
-
-fn state_of(state: &[u8]) -> [u64; 5] {
-    if state.len() < 15 {
-        return [0; 5];
+// The five words of a state; zeros where the part is too short for them.
+fn state_words(state: &[u8]) -> [u64; 5] {
+    let mut words = [0; 5];
+    if 15 <= state.len() {
+        for i in 0..5usize {
+            words[i] = number(&state[3 * i..]) as u64;
+        }
     }
-    [
-        state_word(&state[0..]),
-        state_word(&state[3..]),
-        state_word(&state[6..]),
-        state_word(&state[9..]),
-        state_word(&state[12..]),
-    ]
-}
-
-fn ask_into(
-    rt: &impl Print,
-    card: &[u8],
-    plan: &[u8],
-    server: u8,
-    state: [u64; 5],
-    lent: &mut [u8],
-) -> io::Result<()> {
-    let mut answer = [9u64; 7];
-    agreement::agreement_ask(card, plan, server, &state, &mut *lent, &mut answer);
-    print_six(
-        rt,
-        [
-            answer[0], answer[1], answer[2], answer[3], answer[4], answer[5],
-        ],
-    )?;
-    print_word(rt, answer[6])?;
-    print_bytes(rt, &lent[..])?;
-    end_line(rt)
+    words
 }
 
 fn ask_case(
     rt: &impl Print,
+    alloc: Global,
     card: &[u8],
     plan: &[u8],
-    server: &[u8],
+    server: u8,
     state: &[u8],
     buffer: &[u8],
 ) -> io::Result<()> {
-    let mut lent = [165u8; 256];
-    let size = lent_size(buffer);
-    ask_into(
-        rt,
-        card,
-        plan,
-        first_byte(server),
-        state_of(state),
-        &mut lent[..size],
-    )
+    let mut answer = [9u64; 7];
+    let mut lent = lent(alloc, buffer.len().min(256))?;
+    let state = state_words(state);
+    agreement::agreement_ask(card, plan, server, &state, &mut lent, &mut answer);
+    print_words(rt, &answer)?;
+    print_bytes(rt, &lent)
 }
 
 fn commit_case(
     rt: &impl Print,
     card: &[u8],
     plan: &[u8],
-    server: &[u8],
+    server: u8,
     state: &[u8],
     arrived: &[u8],
 ) -> io::Result<()> {
     let mut answer = [9u64; 6];
-    let words = state_of(state);
-    agreement::agreement_commit(card, plan, first_byte(server), &words, arrived, &mut answer);
-    print_six(rt, answer)?;
-    end_line(rt)
+    let state = state_words(state);
+    agreement::agreement_commit(card, plan, server, &state, arrived, &mut answer);
+    print_words(rt, &answer)
 }
 
-// The case of this kind that starts here; answers what follows it.
-fn answer_case<'a>(rt: &impl Print, kind: u8, s: &'a [u8]) -> io::Result<&'a [u8]>
-    ensures { IfOk result (λ rest. length rest.now ≤ length s.now) }
+// The case of this kind whose parts come next; any other byte counts as r.
+fn answer_case(rt: &impl Print, alloc: Global, kind: u8, parts: &mut Parts<'_>) -> io::Result<()>
+    ensures { length parts.new.rest.now ≤ length parts.old.rest.now }
 {
-    let card = part(s);
-    let first = after(s);
-    if kind == 99 {
-        card_case(rt, card)?;
-        return Ok(first);
-    }
-    if kind == 115 {
-        split_case(rt, card)?;
-        return Ok(first);
-    }
-    if kind == 113 {
-        quick_case(rt, card)?;
-        return Ok(first);
-    }
-    if kind == 102 {
-        write_case(rt, card)?;
-        return Ok(first);
-    }
-    let plan = part(first);
-    let second = after(first);
-    if kind == 98 {
-        // its second part is the buffer
-        print_case(rt, card, plan)?;
-        return Ok(second);
-    }
-    if kind == 112 {
-        plan_case(rt, card, plan)?;
-        return Ok(second);
-    }
-    if kind == 108 {
-        load_case(rt, card, plan)?;
-        return Ok(second);
-    }
-    if kind == 119 {
-        // its parts are a site and an operand
-        route_case(rt, card, plan)?;
-        return Ok(second);
-    }
-    let inputs = part(second);
-    let third = after(second);
-    if kind == 116 {
-        transcript_case(rt, card, plan, inputs)?;
-        return Ok(third);
-    }
-    let faulty = part(third);
-    let fourth = after(third);
-    if kind == 111 {
-        // its third part is the server, its fourth the input
-        start_case(rt, card, plan, inputs, faulty)?;
-        return Ok(fourth);
-    }
-    let table = part(fourth);
-    let fifth = after(fourth);
-    if kind == 97 {
-        // the server, its state and the buffer
-        ask_case(rt, card, plan, inputs, faulty, table)?;
-        return Ok(fifth);
-    }
-    if kind == 109 {
-        // the server, its state and what arrived
-        commit_case(rt, card, plan, inputs, faulty, table)?;
-        return Ok(fifth);
-    }
-    run_case(rt, card, plan, inputs, faulty, table, part(fifth))?;
-    Ok(after(fifth))
-}
-
-// Reads until the buffer is full or the input ends; answers how many bytes there are.
-fn read_full(input: &mut impl Read, buf: &mut [u8]) -> io::Result<usize>
-    ensures { IfOk result (λ n. n ≤ length buf.new) }
-{
-    let mut done = 0;
-    // each round but the last brings a byte
-    for _ in 0..buf.len() {
-        let n = input.read(&mut buf[done..])?;
-        if n == 0 {
-            break;
+    let card = parts.take();
+    match kind {
+        b'c' => card_case(rt, card)?,
+        b's' => split_case(rt, card)?,
+        b'q' => quick_case(rt, card)?,
+        b'f' => write_case(rt, alloc, card)?,
+        b'b' => print_case(rt, alloc, card, parts.take())?,
+        b'p' => plan_case(rt, card, parts.take())?,
+        b'l' => load_case(rt, card, parts.take())?,
+        b'w' => route_case(rt, card, parts.take())?,
+        b't' => {
+            let plan = parts.take();
+            return transcript_case(rt, card, plan, parts.take());
         }
-        done += n;
+        b'o' => {
+            let plan = parts.take();
+            let server = parts.take_byte();
+            start_case(rt, card, plan, server, parts.take_byte())?;
+        }
+        b'a' => {
+            let plan = parts.take();
+            let server = parts.take_byte();
+            let state = parts.take();
+            ask_case(rt, alloc, card, plan, server, state, parts.take())?;
+        }
+        b'm' => {
+            let plan = parts.take();
+            let server = parts.take_byte();
+            let state = parts.take();
+            commit_case(rt, card, plan, server, state, parts.take())?;
+        }
+        _ => {
+            let plan = parts.take();
+            let inputs = parts.take();
+            let faulty = parts.take_byte();
+            let table = parts.take();
+            run_case(rt, alloc, card, plan, inputs, faulty, table, parts.take())?;
+        }
     }
-    Ok(done)
+    println!(rt)
 }
 
-// Reads the cases into the lent bytes and answers them.
-fn answer_all(rt: &(impl Input + Print), buf: &mut [u8]) -> io::Result<()> {
-    let n = read_full(&mut rt.reader(), &mut *buf)?;
-    let mut rest = &buf[..n];
-    while 0 < rest.len() {
-        let next = answer_case(rt, rest[0], &rest[1..])?;
-        rest = next;
+fn answer_all(rt: &impl Print, alloc: Global, input: &[u8]) -> io::Result<()> {
+    let mut left = input;
+    while let Some((kind, rest)) = left.split_first() {
+        let mut parts = Parts { rest };
+        answer_case(rt, alloc, *kind, &mut parts)?;
+        left = parts.rest;
     }
     Ok(())
 }
 
-// Apart from main, so that no proof writes out all the zeros.
-fn answer_within(rt: &(impl Input + Print), buf: &mut [u8; 4194304]) -> io::Result<()> {
-    answer_all(rt, &mut *buf)
-}
-
 fn main(rt: HostRuntime) -> io::Result<()> {
-    let mut buf = [0u8; 4194304];
-    answer_within(&rt, &mut buf)
+    let mut input = Vec::new(rt.alloc());
+    // no more than a machine's tests have
+    rt.reader().take(4_194_304).read_to_end(&mut input)?;
+    answer_all(&rt, rt.alloc(), &input)
 }

@@ -11,6 +11,8 @@ use std::rt::Files;
 use std::{fs, io};
 
 // Reads until the buffer is full, the file ends or a read fails; answers how many bytes there are.
+// Kept: a buffer of fixed size with the count beside it, since `read_to_end` into a Vec could run out of
+// memory, and the program answers every input.
 fn read_full(file: &mut impl Read, buf: &mut [u8]) -> usize
     ensures { result ≤ length buf.new }
 {
@@ -25,15 +27,14 @@ fn read_full(file: &mut impl Read, buf: &mut [u8]) -> usize
     done
 }
 
-// The file's bytes at the start of the buffer; answers how many there are. One byte more than a
-// file may have is read, so that a file that is too long is seen to be.
-fn read_file(rt: &impl Files, path: &str, buf: &mut [u8; 65537]) -> usize
-    ensures { (result ≤ length buf.new) × (result ≡ length (take result buf.new)) }
-{
-    match fs::open(rt, path) {
+// The file's bytes. One byte more than a file may have is read, so that a file that is too long is seen
+// to be.
+fn read_file<'a>(rt: &impl Files, path: &str, buf: &'a mut [u8]) -> &'a [u8] {
+    let length = match fs::open(rt, path) {
         Ok(mut file) => read_full(&mut file, &mut *buf),
         Err(_) => 0,
-    }
+    };
+    &buf[..length]
 }
 
 // Prints the transcript of the run, all of it and no more: it has at most 1,000 bytes.
@@ -52,15 +53,12 @@ fn print_transcript<W: Write>(
 
 fn main(rt: HostRuntime) -> io::Result<()> {
     let mut card = [0u8; 65537];
-    let card_length = read_file(&rt, "network.card", &mut card);
     let mut plan = [0u8; 65537];
-    let plan_length = read_file(&rt, "network.plan", &mut plan);
     let mut run_in = [0u8; 65537];
-    let run_length = read_file(&rt, "run.in", &mut run_in);
     print_transcript(
         &mut io::writer(&rt),
-        &card[..card_length],
-        &plan[..plan_length],
-        &run_in[..run_length],
+        read_file(&rt, "network.card", &mut card),
+        read_file(&rt, "network.plan", &mut plan),
+        read_file(&rt, "run.in", &mut run_in),
     )
 }
