@@ -112,8 +112,8 @@ pub record Laying (at : ℕ) (text x y : List ℕ) (place i : ℕ) : Type 0 wher
   pub before : Put at (take i text) i x y place
 
 module _ {at : ℕ} {text x y : List ℕ} {place i : ℕ} (l : Laying at text x y place i) where
-  pub laying_goes : i < length text → {z : List ℕ} → Put place (get_or text i 0 ∷ []) 1 y z (place + 1) → Laying at text x z (place + 1) (i + 1)
-  laying_goes h {z} p = record { within = omega arith; before = rw (add-one, take-suc text i 0 h) (rw (add-one i) at (put_join l.before p)) }
+  pub laying_goes : i < length text → {z : List ℕ} {q : ℕ} → Put place (get_or text i 0 ∷ []) 1 y z q → Laying at text x z q (i + 1)
+  laying_goes h {z} {q} p = record { within = omega arith; before = rw (add-one, take-suc text i 0 h) (rw (add-one i) at (put_join l.before p)) }
 
   pub laying_ends : length text ≤ i → Put at text (length text) x y place
   laying_ends h = let w = l.within in let e : i ≡ length text = omega arith in rw (e, take-length) at l.before

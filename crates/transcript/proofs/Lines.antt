@@ -3,13 +3,13 @@
 --     totals_put              the line of totals
 --     server_put              the line of a server
 --     Served, served-..       the lines of the servers: those before i are put
---     refusal_call, -file     the line of a refusal
+--     placed_put, called_put  the line of a refusal; of_card, of_plan, of_call whatever its ground
 --     run_lines, answer-..     the lines of a run
 --     card_few, files-..      the lines of three files
---     long-.., short_put      all that is printed
+--     long_put, short_put     all that is printed
 -- Assumes nothing.
-use mathlib.Core.Path.{◌≡◌, sym, ap, ◌∙◌}
-use mathlib.Core.Bool.{Bool, true, false, cond}
+use mathlib.Core.Path.{◌≡◌, refl, sym, ap, ◌∙◌}
+use mathlib.Core.Bool.{Bool, true, false, cond, ◌||◌}
 use mathlib.Core.List.{List, ◌++◌, append-nil, append_assoc}
 use Prim.Native.Nat.{ℕ, zero, suc, ◌+◌, ◌*◌, ◌≤◌, ◌<◌}
 use native.Mathlib.Omega.{arith}
@@ -18,8 +18,11 @@ use native.Mathlib.Nat.{add-zero, add-suc, suc-add}
 use lib.Dec.{eqb}
 use lib.ListN.{get_or, replicate}
 use Rattle.sets.specs.Sets.{has}
-use Rattle.refusal.specs.Refused.{Refused, card, plan, call, refusal_of, whose_of, number_of, place_of}
+use Rattle.refusal.specs.Refused.{Refused, call, refusal_of, card_refusal, plan_refusal, call_refusal, number_of, place_of}
 use Rattle.refusal.specs.declared.Refusal.{Refusal}
+use Rattle.refusal.specs.declared.CardGround.{CardGround}
+use Rattle.refusal.specs.declared.PlanGround.{PlanGround}
+use Rattle.refusal.specs.declared.CallGround.{CallGround}
 use Rattle.network.specs.Card.{read_card, head, head_of, links_of}
 use Rattle.network.specs.Card as Card
 use Rattle.network.proofs.Heads.{network_of, refused_of}
@@ -27,7 +30,7 @@ use Rattle.network.proofs.Main.{card_proper}
 use Rattle.steps.specs.Run.{run_plan, lent_after}
 use Rattle.run.specs.Answers.{Answered, ran_of}
 use Rattle.run.specs.declared.call.Ran.{Ran}
-use Rattle.transcript.specs.Text.{too_long, blocks_word, carriages_word, server_word, decided_word, faulty_word, refused_word, card_word, plan_word, call_word, gap, newline, decimal, totals_line, decided_line, decided_lines, refused_line, faulty_of, inputs_of, table_of, answer_lines, files_lines, is_long, transcript, Put}
+use Rattle.transcript.specs.Text.{too_long, blocks_word, carriages_word, server_word, decided_word, faulty_word, refused_word, card_word, plan_word, call_word, gap, newline, decimal, totals_line, decided_line, decided_lines, refused_line, placed_line, faulty_of, inputs_of, table_of, answer_lines, files_lines, is_long, transcript, Put}
 use Rattle.transcript.proofs.Laying.{put_none, put_join, put_most}
 
 -- a word that a test chooses
@@ -80,21 +83,45 @@ module _ {at n X : ℕ} {bytes x y : List ℕ} {place i : ℕ} (s : Served at n 
 
 -- the line of a refusal
 
-module _ {x a b c z : List ℕ} {i j k q : ℕ} where
-  pub refusal_call : (r : Refused) {w number : ℕ} → w ≡ whose_of r → number ≡ number_of r → w ≡ 2 → Put 0 refused_word 8 x a i → Put i call_word 5 a b j → Put j (decimal number) 20 b c k → Put k newline 1 c z q
-      → Put 0 (refused_line r) 100 x z q
-  unfolding refused_line
-  refusal_call (card m o) {w} {number} e f g p s t u = absurd (omega arith)
-  refusal_call (plan m o) {w} {number} e f g p s t u = absurd (omega arith)
-  refusal_call (call m) {w} {number} e f g p s t u = put_most 100 (put_join (put_join (put_join p s) (rw f at t)) u) (omega arith)
+module _ {at : ℕ} {x a b c d y z : List ℕ} {i j k l h q : ℕ} where
+  pub placed_put : (file : List ℕ) (number place : ℕ) → Put at refused_word 8 x a i → Put i file 5 a b j → Put j (decimal number) 20 b c k → Put k gap 1 c d l → Put l (decimal place) 20 d y h → Put h newline 1 y z q
+      → Put at (placed_line file number place) 100 x z q
+  unfolding placed_line
+  placed_put file number place p s t u v w = put_most 100 (put_join (put_join (put_join (put_join (put_join p s) t) u) v) w) (omega arith)
 
-module _ {x a b c d y z : List ℕ} {i j k l h q : ℕ} where
-  pub refusal_file : (r : Refused) {w number place : ℕ} → w ≡ whose_of r → number ≡ number_of r → place ≡ place_of r → (w ≡ 2 → ⊥) → Put 0 refused_word 8 x a i → Put i (cond (eqb w 0) card_word plan_word) 20 a b j
-      → Put j (decimal number) 20 b c k → Put k gap 1 c d l → Put l (decimal place) 20 d y h → Put h newline 1 y z q → Put 0 (refused_line r) 100 x z q
+module _ {at : ℕ} {x a b z : List ℕ} {i j q : ℕ} where
+  pub called_put : (number : ℕ) → Put at (refused_word ++ call_word) 13 x a i → Put i (decimal number) 20 a b j → Put j newline 1 b z q → Put at (refused_line (call number)) 100 x z q
   unfolding refused_line
-  refusal_file (card m o) {w} {number} {place} e f g n p s t u v v' = put_most 100 (put_join (put_join (put_join (put_join (put_join p (rw e at s)) (rw f at t)) u) (rw g at v)) v') (omega arith)
-  refusal_file (plan m o) {w} {number} {place} e f g n p s t u v v' = put_most 100 (put_join (put_join (put_join (put_join (put_join p (rw e at s)) (rw f at t)) u) (rw g at v)) v') (omega arith)
-  refusal_file (call m) {w} {number} {place} e f g n p s t u v v' = absurd (n e)
+  called_put number p s t = put_most 100 (put_join (put_join p s) t) (omega arith)
+
+-- whatever its ground
+pub of_card : (g : CardGround) → placed_line card_word (number_of (card_refusal g)) (place_of (card_refusal g)) ≡ refused_line (card_refusal g)
+unfolding refused_line placed_line
+of_card CardGround.TooLong = refl
+of_card (CardGround.Cut at) = refl
+of_card (CardGround.Trailing at) = refl
+of_card (CardGround.Head at) = refl
+of_card (CardGround.Range at) = refl
+
+pub of_plan : (g : PlanGround) → placed_line plan_word (number_of (plan_refusal g)) (place_of (plan_refusal g)) ≡ refused_line (plan_refusal g)
+unfolding refused_line placed_line
+of_plan PlanGround.TooLong = refl
+of_plan (PlanGround.Cut at) = refl
+of_plan (PlanGround.Trailing at) = refl
+of_plan (PlanGround.NotDue at) = refl
+of_plan (PlanGround.Quorum at) = refl
+of_plan (PlanGround.Route at) = refl
+of_plan (PlanGround.Shared at) = refl
+of_plan (PlanGround.Reporters at) = refl
+
+pub of_call : (g : CallGround) → refused_line (call (number_of (call_refusal g))) ≡ refused_line (call_refusal g)
+of_call CallGround.Inputs = refl
+of_call CallGround.FaultSet = refl
+of_call CallGround.Buffer = refl
+of_call CallGround.OneWay = refl
+of_call CallGround.OutOfTurn = refl
+of_call CallGround.BadSplit = refl
+of_call CallGround.PlanBuffer = refl
 
 -- the lines of a run
 
@@ -111,15 +138,15 @@ module _ (card_bytes plan_bytes runIn : List ℕ) (n : ℕ) {X : ℕ} {inputs ta
   stored : lent_after card_bytes plan_bytes (inputs_of n runIn) (faulty_of runIn) (table_of n runIn) lent ≡ after
   stored = rw (← e, ← f, ← g) (sym a.bytes)
 
-  pub answer_refused : (u : Refusal) → r ≡ Ran.Refused u → {x z : List ℕ} {q : ℕ} → Put 0 (refused_line (refusal_of u)) 100 x z q
-      → Put 0 (run_lines card_bytes plan_bytes runIn n lent) 1000 x z q
+  pub answer_refused : (u : Refusal) → r ≡ Ran.Refused u → {at : ℕ} {x z : List ℕ} {q : ℕ} → Put at (refused_line (refusal_of u)) 100 x z q
+      → Put at (run_lines card_bytes plan_bytes runIn n lent) 1000 x z q
   unfolding answer_lines
-  answer_refused u h {x} {z} {q} p = rw (answered, h) (put_most 1000 p (omega arith))
+  answer_refused u h {at} {x} {z} {q} p = rw (answered, h) (put_most 1000 p (omega arith))
 
-  pub answer_lines_lem : (blocks carriages : ℕ) → r ≡ Ran.Answered blocks carriages → {x y z : List ℕ} {at q : ℕ} → Put 0 (totals_line blocks carriages) 100 x y at → Put at (decided_lines X after n 0) 800 y z q
-      → Put 0 (run_lines card_bytes plan_bytes runIn n lent) 1000 x z q
+  pub answer_lines_lem : (blocks carriages : ℕ) → r ≡ Ran.Answered blocks carriages → {at : ℕ} {x y z : List ℕ} {i q : ℕ} → Put at (totals_line blocks carriages) 100 x y i → Put i (decided_lines X after n 0) 800 y z q
+      → Put at (run_lines card_bytes plan_bytes runIn n lent) 1000 x z q
   unfolding answer_lines
-  answer_lines_lem blocks carriages h {x} {y} {z} {at} {q} p s = rw (answered, h, stored) (put_most 1000 (put_join p (rw e at s)) (omega arith))
+  answer_lines_lem blocks carriages h {at} {x} {y} {z} {i} {q} p s = rw (answered, h, stored) (put_most 1000 (put_join p (rw e at s)) (omega arith))
 
 -- the lines of three files
 
@@ -127,34 +154,28 @@ module _ (card_bytes : List ℕ) where
   pub card_few : (n f : ℕ) → head n f ≡ head_of (read_card card_bytes) → n ≤ 8
   card_few n f e = (card_proper card_bytes n f (links_of (read_card card_bytes)) (network_of (read_card card_bytes) n f (sym e))).most
 
-  module _ (plan_bytes runIn : List ℕ) {x z : List ℕ} {q : ℕ} where
-    pub files_refused : (r : Refused) → Card.turned r ≡ head_of (read_card card_bytes) → Put 0 (refused_line r) 100 x z q → Put 0 (files_lines (read_card card_bytes) card_bytes plan_bytes runIn) 1000 x z q
+  module _ (plan_bytes runIn : List ℕ) {at : ℕ} {x z : List ℕ} {q : ℕ} where
+    pub files_refused : (r : Refused) → Card.turned r ≡ head_of (read_card card_bytes) → Put at (refused_line r) 100 x z q → Put at (files_lines (read_card card_bytes) card_bytes plan_bytes runIn) 1000 x z q
     unfolding files_lines
     files_refused r e p = rw (refused_of (read_card card_bytes) r (sym e)) (put_most 1000 p (omega arith))
 
     pub files_run : (n f : ℕ) → head n f ≡ head_of (read_card card_bytes)
-        → Put 0 (run_lines card_bytes plan_bytes runIn n (replicate 8 0)) 1000 x z q
-        → Put 0 (files_lines (read_card card_bytes) card_bytes plan_bytes runIn) 1000 x z q
+        → Put at (run_lines card_bytes plan_bytes runIn n (replicate 8 0)) 1000 x z q
+        → Put at (files_lines (read_card card_bytes) card_bytes plan_bytes runIn) 1000 x z q
     unfolding files_lines
     files_run n f e p = rw (network_of (read_card card_bytes) n f (sym e)) p
 
 -- all that is printed
 
-module _ (card_bytes plan_bytes runIn : List ℕ) {x z : List ℕ} {q : ℕ} {a : Bool} (e : a ≡ is_long card_bytes) where
-  pub long_card : a ≡ true → Put 0 too_long 9 x z q → Put 0 (transcript card_bytes plan_bytes runIn) 1000 x z q
+module _ (card_bytes plan_bytes runIn : List ℕ) {x z : List ℕ} {q : ℕ} {a : Bool} (e : a ≡ (is_long card_bytes || (is_long plan_bytes || is_long runIn))) where
+  pub long_put : a ≡ true → Put 0 too_long 9 x z q → Put 0 (transcript card_bytes plan_bytes runIn) 1000 x z q
   unfolding transcript
-  long_card h p = rw (← e, h) (put_most 1000 p (omega arith))
+  long_put h p = rw (← e, h) (put_most 1000 p (omega arith))
 
-  module _ (h : a ≡ false) {b : Bool} (f : b ≡ is_long plan_bytes) where
-    pub long_plan : b ≡ true → Put 0 too_long 9 x z q → Put 0 (transcript card_bytes plan_bytes runIn) 1000 x z q
-    unfolding transcript
-    long_plan i p = rw (← e, h, ← f, i) (put_most 1000 p (omega arith))
+  pub short_put : a ≡ false → Put 0 (files_lines (read_card card_bytes) card_bytes plan_bytes runIn) 1000 x z q → Put 0 (transcript card_bytes plan_bytes runIn) 1000 x z q
+  unfolding transcript
+  short_put h p = rw (← e, h) p
 
-    module _ (i : b ≡ false) {c : Bool} (g : c ≡ is_long runIn) where
-      pub long_run : c ≡ true → Put 0 too_long 9 x z q → Put 0 (transcript card_bytes plan_bytes runIn) 1000 x z q
-      unfolding transcript
-      long_run j p = rw (← e, h, ← f, i, ← g, j) (put_most 1000 p (omega arith))
-
-      pub short_put : c ≡ false → Put 0 (files_lines (read_card card_bytes) card_bytes plan_bytes runIn) 1000 x z q → Put 0 (transcript card_bytes plan_bytes runIn) 1000 x z q
-      unfolding transcript
-      short_put j p = rw (← e, h, ← f, i, ← g, j) p
+-- what the buffer holds when it is handed back
+pub put_back : {at : ℕ} {text : List ℕ} {m : ℕ} {x y z : List ℕ} {q : ℕ} → Put at text m x y q → z ≡ y → Put at text m x z q
+put_back p e = rw e p

@@ -77,6 +77,10 @@ unfoldable pub decided_lines : ℕ → List ℕ → ℕ → ℕ → List ℕ
 decided_lines X bytes zero i = []
 decided_lines X bytes (suc k) i = decided_line X bytes i ++ decided_lines X bytes k (suc i)
 
+-- the line of a refused card or plan
+unfoldable pub placed_line : List ℕ → (number place : ℕ) → List ℕ
+placed_line file number place = refused_word ++ file ++ decimal number ++ gap ++ decimal place ++ newline
+
 unfoldable pub refused_line : Refused → List ℕ
 refused_line (card number place) = refused_word ++ card_word ++ decimal number ++ gap ++ decimal place ++ newline
 refused_line (plan number place) = refused_word ++ plan_word ++ decimal number ++ gap ++ decimal place ++ newline
