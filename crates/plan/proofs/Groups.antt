@@ -1,9 +1,10 @@
--- The loop over the separate routes to one receiver: what is left of the group from here gives the answer of the whole.
---     whole-..        a command that is not cut off
+-- The separate routes to one receiver, one after the other.
+--     whole_command   a command that is not cut off has its operands
+--     part_rest       a part of a plan up to its end
+--     wide            the commands of routes are of one width
 --     due-..          whether a route's command is the one due, with all of its operand
---     FromCommand, FromRoute, FromSharing   the points of the test of one route
---     group-..        what the test of the command gives
---     route-..        what the tests of the route give
+--     route-..        what the tests of one route give
+--     group-..        the loop over the routes: what is left of the group from here gives the answer of the whole
 -- Assumes nothing.
 use mathlib.Core.Path.{◌≡◌, refl, sym, ap, ◌∙◌}
 use mathlib.Core.Bool.{Bool, true, false, cond, not, ◌&&◌, and-false}
@@ -13,7 +14,7 @@ use native.Mathlib.Omega.{arith}
 use lib.ListN.{length, get_or, take, drop, length-drop}
 use lib.Seq.{take_all}
 use lib.Dec.{eqb, ltb}
-use borrow.Author.Tests.{lt-ltb, le-ltb, eq-eqb, ne_eqb, eqb-true, ltb-false}
+use borrow.Author.Tests.{lt-ltb, le-ltb, eq-eqb, ne_eqb, eqb-true, ltb-true, ltb-false}
 use Rattle.facts.proofs.Bools.{cases, clash, and_left, and_right, not_true}
 use Rattle.sets.specs.Sets.{union, meet, minus, single}
 use Rattle.sets.proofs.Members.{meet_nothing}
@@ -21,34 +22,29 @@ use Rattle.network.specs.Links.{Links}
 use Rattle.plan.specs.Due.{Group}
 use Rattle.route.specs.Route.{route_set}
 use Rattle.route.specs.Commands.{width, is_cut}
-use Rattle.plan.specs.Check.{Progress, reached, stopped, is_due, check_group}
+use Rattle.plan.specs.declared.check.Kind.{Kind}
+use Rattle.plan.specs.Answers.{command_of}
+use Rattle.plan.specs.Check.{Progress, reached, stopped, is_due, one_route, check_group}
 
--- a command that is not cut off has its operands
 pub whole_command : (s : List ℕ) (at w : ℕ) → is_cut s at ≡ false → width (get_or s at 0) ≡ w → (at < length s) × (w ≤ length s - at)
 unfolding is_cut
 whole_command s at w e q =
     cases (ltb at (length s))
     (λ h. cases (eqb (width (get_or s at 0)) 0)
-    (λ z. absurd (let u : ◌≡◌ {A = Bool} true false = sym (simp (h, z)) ∙ e in differ u))
+    (λ z. absurd (clash true refl (sym (simp (h, z)) ∙ e)))
     (λ z. cases (ltb (length s - at) (width (get_or s at 0)))
-    (λ t. absurd (let u : ◌≡◌ {A = Bool} true false = sym (simp (h, z, t)) ∙ e in differ u))
-    (λ t. let a = ltb-false (length s - at) (width (get_or s at 0)) t in (inside h, rw q at a))))
-    (λ h. absurd (let u : ◌≡◌ {A = Bool} true false = sym (simp h) ∙ e in differ u))
-  where
-    differ : ◌≡◌ {A = Bool} true false → ⊥
-    differ u = clash true refl u
+    (λ t. absurd (clash true refl (sym (simp (h, z, t)) ∙ e)))
+    (λ t. (ltb-true at (length s) h, rw q at (ltb-false (length s - at) (width (get_or s at 0)) t)))))
+    (λ h. absurd (clash true refl (sym (simp h) ∙ e)))
 
-    inside : ltb at (length s) ≡ true → at < length s
-    inside h = borrow.Author.Tests.ltb-true at (length s) h
-
--- the opening of a block that is not cut off has its operands
-pub whole_opening : (s : List ℕ) → is_cut s 0 ≡ false → get_or s 0 0 ≡ 16 → 4 ≤ length s
-unfolding width
-whole_opening s e k = let z = whole_command s 0 4 e (ap width k) in omega arith
-
--- a part up to the end is what is left
 pub part_rest : (s : List ℕ) (m : ℕ) → take (length s - m) (drop m s) ≡ drop m s
 part_rest s m = take_all (length s - m) (drop m s) (simp length-drop (omega arith))
+
+pub wide : (k : Kind) → width (command_of k) ≡ 9
+unfolding width
+wide Kind.Inward = refl
+wide Kind.Among = refl
+wide Kind.Outward = refl
 
 -- whether a route's command is the one due, with all of its operand
 module _ (s : List ℕ) (at command : ℕ) (wide : width command ≡ 9) where
@@ -73,74 +69,69 @@ module _ (s : List ℕ) (at command : ℕ) (wide : width command ≡ 9) where
       (λ q. sym (simp (lt-ltb at (length s) i, due_width q, le-ltb (length s - at) 9 h)))
       (λ q. simp (q, and-false (not (is_cut s at))))
 
--- Three points of the test of a route that k routes follow. At each, what is left to test gives the answer `whole`.
+-- one route by itself, and what follows with its servers
+module _ (W : ℕ) (links : Links) (s : List ℕ) (g : Group) (at : ℕ) {b : Bool} (p : b ≡ (not (is_cut s at) && eqb (get_or s at 0) g.command)) where
+  -- cut off, or another command
+  pub route_other : b ≡ false → {number place : ℕ} → (number ≡ cond (is_cut s at) 2 7) × (place ≡ at) → (on : ℕ → Progress) → stopped number place ≡ one_route W links s g at on
+  unfolding is_due
+  route_other f {number} {place} (x, y) on =
+      rw (x, y)
+      (cases (is_cut s at)
+      (λ c. simp c)
+      (λ c. let o : eqb (get_or s at 0) g.command ≡ false = sym (simp c) ∙ sym p ∙ f in simp (c, o)))
 
-abbrev pub Point : Type 1
-Point = (W : ℕ) (links : Links) (s : List ℕ) (g : Group) (k at carriages used : ℕ) (whole : Progress) → Type 0
+  module _ (e : b ≡ true) where
+    here : (is_cut s at ≡ false) × (eqb (get_or s at 0) g.command ≡ true)
+    here = let both = sym p ∙ e in (not_true (is_cut s at) (and_left _ _ both), and_right (not (is_cut s at)) _ both)
 
-module _ (W : ℕ) (links : Links) (s : List ℕ) (g : Group) (k at carriages used : ℕ) (whole : Progress) where
-  -- all of the route is to test
-  pub record FromCommand : Type 0 where
-    pub gives : check_group W links s g (suc k) at carriages used ≡ whole
+    pub route_long : width g.command ≡ 9 → at + 9 ≤ length s
+    route_long w = let z = whole_command s at 9 here.0 (ap width (eqb-true _ _ here.1) ∙ w) in omega arith
 
-  -- its command is the one due, and the rules for one route are next
-  pub record FromRoute : Type 0 where
-    pub long : at + 9 ≤ length s
-    pub gives : let servers = route_set W links g.sources g.receiver (drop (at + 1) s) in
-        let others = minus servers (single g.receiver) in
-        cond (eqb servers 0) (stopped 9 at)
-        (cond (not (eqb (meet used others) 0)) (stopped 10 at) (check_group W links s g k (at + 9) (carriages + 1) (union used others)))
-        ≡ whole
+    module _ {set : ℕ} (q : set ≡ route_set W links g.sources g.receiver (take (length s - (at + 1)) (drop (at + 1) s))) (on : ℕ → Progress) where
+      checked : route_set W links g.sources g.receiver (drop (at + 1) s) ≡ set
+      checked = sym (q ∙ ap (route_set W links g.sources g.receiver) (part_rest s (at + 1)))
 
--- it is sound, `others` are its servers but for the receiver, and what it shares is next
-pub record FromSharing (others W : ℕ) (links : Links) (s : List ℕ) (g : Group) (k at carriages used : ℕ) (whole : Progress) : Type 0 where
-  pub long : at + 9 ≤ length s
-  pub gives : cond (not (eqb (meet used others) 0)) (stopped 10 at) (check_group W links s g k (at + 9) (carriages + 1) (union used others)) ≡ whole
+      tested : cond (eqb set 0) (stopped 9 at) (on set) ≡ one_route W links s g at on
+      unfolding is_due
+      tested = let h = here in sym (simp (h.0, h.1, checked))
 
-module _ {W : ℕ} {links : Links} {s : List ℕ} {g : Group} {k at carriages used : ℕ} {whole : Progress} where
-  module _ (t : FromCommand W links s g k at carriages used whole) {b : Bool} (p : b ≡ (not (is_cut s at) && eqb (get_or s at 0) g.command)) where
-    -- cut off, or another command
-    pub group_other : b ≡ false → {number place : ℕ} → (number ≡ cond (is_cut s at) 2 7) × (place ≡ at) → stopped number place ≡ whole
-    unfolding check_group is_due
-    group_other f {number} {place} (x, y) =
-        rw (x, y)
-        (cases (is_cut s at)
-        (λ c. simp c (sym (simp c) ∙ t.gives))
-        (λ c. let o : eqb (get_or s at 0) g.command ≡ false = sym (simp c) ∙ sym p ∙ f in simp c (sym (simp (c, o)) ∙ t.gives)))
+      pub route_wrong : set ≡ 0 → stopped 9 at ≡ one_route W links s g at on
+      route_wrong z = sym (simp (eq-eqb set 0 z)) ∙ tested
 
-    pub group_due : b ≡ true → width g.command ≡ 9 → FromRoute W links s g k at carriages used whole
-    unfolding check_group is_due
-    group_due e w =
-        let both = sym p ∙ e in
-        let c = not_true (is_cut s at) (and_left _ _ both) in
-        let q = and_right (not (is_cut s at)) _ both in
-        let z = whole_command s at 9 c (ap width (eqb-true _ _ q) ∙ w) in
-        record { long = omega arith; gives = sym (simp (c, q)) ∙ t.gives }
+      pub route_sound : (set ≡ 0 → ⊥) → on set ≡ one_route W links s g at on
+      route_sound o = sym (simp (ne_eqb set 0 o)) ∙ tested
 
-  module _ (t : FromRoute W links s g k at carriages used whole) {set : ℕ} (q : set ≡ route_set W links g.sources g.receiver (take (length s - (at + 1)) (drop (at + 1) s))) where
-    checked : set ≡ route_set W links g.sources g.receiver (drop (at + 1) s)
-    checked = q ∙ ap (route_set W links g.sources g.receiver) (part_rest s (at + 1))
+-- a turn of the loop: k routes follow the one that is due
+module _ (W : ℕ) (links : Links) (s : List ℕ) (g : Group) (k at carriages used : ℕ) {whole : Progress} (t : check_group W links s g (suc k) at carriages used ≡ whole) where
+  -- on from the servers of the route
+  onward_of : ℕ → Progress
+  onward_of set =
+      let others = minus set (single g.receiver) in
+      cond (not (eqb (meet used others) 0)) (stopped 10 at) (check_group W links s g k (at + 9) (carriages + 1) (union used others))
 
-    pub route_wrong : set ≡ 0 → stopped 9 at ≡ whole
-    route_wrong z = sym (simp (eq-eqb _ 0 (sym checked ∙ z))) ∙ t.gives
+  first : one_route W links s g at onward_of ≡ whole
+  unfolding check_group onward_of
+  first = t
 
-    pub route_sound : (set ≡ 0 → ⊥) → {one others : ℕ} → one ≡ single g.receiver → others ≡ minus set one → FromSharing others W links s g k at carriages used whole
-    route_sound some {one} {others} c d =
-        let y : others ≡ minus (route_set W links g.sources g.receiver (drop (at + 1) s)) (single g.receiver) = d ∙ ap (λ (x : ℕ). minus x one) checked ∙ ap (minus _) c in
-        record { long = t.long; gives = rw y (sym (simp (ne_eqb _ 0 (λ z. some (checked ∙ z)))) ∙ t.gives) }
+  pub group_stops : {number place : ℕ} → ((on : ℕ → Progress) → stopped number place ≡ one_route W links s g at on) → stopped number place ≡ whole
+  group_stops h = h onward_of ∙ first
 
-  module _ {others : ℕ} (t : FromSharing others W links s g k at carriages used whole) {shared : ℕ} (i : shared ≡ meet used others) where
-    pub route_shares : (shared ≡ 0 → ⊥) → stopped 10 at ≡ whole
-    route_shares o = sym (simp (ne_eqb (meet used others) 0 (λ z. o (i ∙ z)))) ∙ t.gives
+  module _ {set : ℕ} (h : (on : ℕ → Progress) → on set ≡ one_route W links s g at on) {others shared : ℕ} (o : others ≡ minus set (single g.receiver)) (i : shared ≡ meet used others) where
+    ahead : cond (not (eqb shared 0)) (stopped 10 at) (check_group W links s g k (at + 9) (carriages + 1) (union used others)) ≡ whole
+    unfolding onward_of
+    ahead = rw (i, o) (h onward_of ∙ first)
 
-    pub route_apart : shared ≡ 0 → {used' : ℕ} → used' ≡ union used others → check_group W links s g k (at + 9) (carriages + 1) used' ≡ whole
-    route_apart z v = rw v (sym (simp (eq-eqb (meet used others) 0 (sym i ∙ z))) ∙ t.gives)
+    pub group_shares : (shared ≡ 0 → ⊥) → stopped 10 at ≡ whole
+    group_shares n = sym (simp (ne_eqb shared 0 n)) ∙ ahead
+
+    pub group_goes : shared ≡ 0 → {used' : ℕ} → used' ≡ union used others → check_group W links s g k (at + 9) (carriages + 1) used' ≡ whole
+    group_goes z v = rw v (sym (simp (eq-eqb shared 0 z)) ∙ ahead)
 
 pub group_done : (W : ℕ) (links : Links) (s : List ℕ) (g : Group) (k at carriages used : ℕ) → k ≡ 0 → reached at carriages ≡ check_group W links s g k at carriages used
 unfolding check_group
 group_done W links s g k at carriages used z = sym (rw z refl)
 
 -- a route that stands alone shares nothing
-pub route_alone : {W : ℕ} {links : Links} {s : List ℕ} {g : Group} {at carriages : ℕ} {whole : Progress} → FromRoute W links s g 0 at carriages 0 whole
-    → {set : ℕ} → set ≡ route_set W links g.sources g.receiver (take (length s - (at + 1)) (drop (at + 1) s)) → (set ≡ 0 → ⊥) → reached (at + 9) (carriages + 1) ≡ whole
-route_alone t q some = group_done _ _ _ _ 0 _ _ _ refl ∙ route_apart (route_sound t q some refl refl) refl (meet_nothing _) refl
+pub route_alone : (W : ℕ) (links : Links) (s : List ℕ) (g : Group) (at carriages : ℕ) {set : ℕ} → ((on : ℕ → Progress) → on set ≡ one_route W links s g at on)
+    → reached (at + 9) (carriages + 1) ≡ check_group W links s g 1 at carriages 0
+route_alone W links s g at carriages {set} h = group_done _ _ _ _ 0 _ _ _ refl ∙ group_goes W links s g 0 at carriages 0 refl h refl refl (meet_nothing (minus set (single g.receiver))) refl

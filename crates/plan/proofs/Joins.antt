@@ -1,9 +1,10 @@
 -- Checks in a row: one list of due things after another is one list.
 --     then_then       `and_then` twice, bracketed the other way
+--     then_stops, then_goes   what the check in front says of a row
 --     groups_append   the groups of two lists joined
 --     blocks_append   the blocks of two lists joined
 -- Assumes nothing.
-use mathlib.Core.Path.{◌≡◌, refl, sym, ◌∙◌}
+use mathlib.Core.Path.{◌≡◌, refl, sym, ap, ◌∙◌}
 use mathlib.Core.List.{List, [], ◌∷◌, ◌++◌}
 use Prim.Native.Nat.{ℕ}
 use lib.ListN.{drop}
@@ -19,6 +20,14 @@ then_then (stopped number place) f g = refl
 pub then_same : (p : Progress) (f g : ℕ → ℕ → Progress) → ((at carriages : ℕ) → f at carriages ≡ g at carriages) → and_then p f ≡ and_then p g
 then_same (reached at carriages) f g h = h at carriages
 then_same (stopped number place) f g h = refl
+
+-- a check in front that stops, or goes on
+module _ {x whole : Progress} (next : ℕ → ℕ → Progress) (t : and_then x next ≡ whole) where
+  pub then_stops : {number place : ℕ} → stopped number place ≡ x → stopped number place ≡ whole
+  then_stops e = ap (λ (u : Progress). and_then u next) e ∙ t
+
+  pub then_goes : {at carriages : ℕ} → reached at carriages ≡ x → next at carriages ≡ whole
+  then_goes e = ap (λ (u : Progress). and_then u next) e ∙ t
 
 module _ (W : ℕ) (links : Links) (s : List ℕ) where
   pub groups_append : (gs hs : List Group) (at carriages : ℕ)

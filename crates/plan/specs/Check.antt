@@ -23,6 +23,12 @@ is_due s at command next = cond (is_cut s at) (stopped 2 at) (cond (eqb (get_or 
 unfoldable pub route_at : List ℕ → ℕ → List ℕ
 route_at s at = take 8 (drop (at + 1) s)
 
+-- one route of a group by itself, and what follows with its servers
+abbrev pub one_route : ℕ → Links → List ℕ → Group → ℕ → (ℕ → Progress) → Progress
+one_route W links s g at on =
+    let servers = route_set W links g.sources g.receiver (drop (at + 1) s) in
+    is_due s at g.command (cond (eqb servers 0) (stopped 9 at) (on servers))
+
 -- k more routes of a group within W, which is V−F; `used` holds the servers, the receiver aside, of the earlier ones
 unfoldable pub check_group : ℕ → Links → List ℕ → Group → (k at carriages used : ℕ) → Progress
 check_group W links s g zero at carriages used = reached at carriages

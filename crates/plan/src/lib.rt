@@ -2,3 +2,5 @@
 #![tactic(auto)]
 
 pub mod check;
+pub mod due;
+mod site;

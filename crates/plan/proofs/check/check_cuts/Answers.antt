@@ -1,52 +1,31 @@
-use mathlib.Core.Path.{sym, ◌∙◌}
-use Prim.Native.Nat.{◌+◌, ◌*◌, ◌≤◌}
+use mathlib.Core.Path.{refl}
 use native.Mathlib.Omega.{arith}
-use Rattle.network.specs.Rows.{links_of}
-use Rattle.plan.proofs.Steps.{cutting_starts, cutting_ends, cutting_skips, PartDue, block_placed, block_halts, block_moves}
+use Rattle.plan.proofs.Walks.{cuts_walk, walk_ends, walk_stops, walk_goes}
+use Rattle.plan.proofs.Bounds.{block_onward, block_reaches, block_stops}
 use Rattle.plan.proofs.check.check_cuts.Goals as goal
-use Rattle.plan.proofs.check.check_cuts.Goals.{else-is_part, then-is_part+in-Reached}
-
-pub loop-p-init : goal.loop-p-init
-loop-p-init c = let s = c in cutting_starts _ _ _ _ _ _ _ _ _ s.requires.0 (omega arith) s.requires.3 c.full-servers.ensures c.minus-sound.ensures s.requires.1 s.requires.2
 
 pub later-requires : goal.later-requires
-later-requires c =
-    let due : (let a = c.args in
-    let l = c.loop-p in
-    PartDue a.n a.f (links_of a.rows.now) a.plan.now a.fault a.start a.before (c.full-servers.result + 1) c.minus-sound.result l.p l.at l.carriages) = record { cutting = c.loop-p.invariant; more = c.loop-p-test.true; part = sym c.is_part.ensures ∙ c.if-is_part.true } in
-    block_placed due c.check_block-block.ensures c.in-Stopped.is
+later-requires c = let b = block_stops _ _ _ _ _ c.loop-part.invariant.inside c.in-Err.ensures refl in (b.0, omega arith)
 
-pub returns-in-Stopped : goal.returns-in-Stopped
-returns-in-Stopped c =
-    let due : (let a = c.args in
-    let l = c.loop-p in
-    PartDue a.n a.f (links_of a.rows.now) a.plan.now a.fault a.start a.before (c.full-servers.result + 1) c.minus-sound.result l.p l.at l.carriages) = record { cutting = c.loop-p.invariant; more = c.loop-p-test.true; part = sym c.is_part.ensures ∙ c.if-is_part.true } in
-    block_halts due c.check_block-block.ensures c.in-Stopped.is c.later.result c.later.ensures
+pub returns-in-Err-clause-gives : goal.returns-in-Err-clause-gives
+returns-in-Err-clause-gives c =
+    let i = c.loop-part.invariant in
+    rw (c.later.ensures.0, c.later.ensures.1) (walk_stops (cuts_walk _ _ _ _ _) i.gives c.in-Some.ensures.steps (block_onward _ _ _ _ _ i.inside c.in-Err.ensures c.loop-part.carriages))
 
 pub overflow_add-at : goal.overflow_add-at
-overflow_add-at c =
-    let due : (let a = c.args in
-    let l = c.loop-p in
-    PartDue a.n a.f (links_of a.rows.now) a.plan.now a.fault a.start a.before (c.full-servers.result + 1) c.minus-sound.result l.p l.at l.carriages) = record { cutting = c.loop-p.invariant; more = c.loop-p-test.true; part = sym c.is_part.ensures ∙ c.if-is_part.true } in
-    let moved : (let l = c.loop-p in let b = c.in-Reached in (l.at + b.bytes ≤ 1048576) × (l.carriages + b.more ≤ 256 * 1048576)) = let m = block_moves due c.check_block-block.ensures c.in-Reached.is in (omega arith, omega arith) in
-    omega (arith, moved)
+overflow_add-at c = let b = block_reaches _ _ _ _ _ c.loop-part.invariant.inside c.in-Ok.ensures refl in omega arith
 
 pub overflow_add-carriages : goal.overflow_add-carriages
-overflow_add-carriages c =
-    let due : (let a = c.args in
-    let l = c.loop-p in
-    PartDue a.n a.f (links_of a.rows.now) a.plan.now a.fault a.start a.before (c.full-servers.result + 1) c.minus-sound.result l.p l.at l.carriages) = record { cutting = c.loop-p.invariant; more = c.loop-p-test.true; part = sym c.is_part.ensures ∙ c.if-is_part.true } in
-    let moved : (let l = c.loop-p in let b = c.in-Reached in (l.at + b.bytes ≤ 1048576) × (l.carriages + b.more ≤ 256 * 1048576)) = let m = block_moves due c.check_block-block.ensures c.in-Reached.is in (omega arith, omega arith) in
-    omega (arith, moved)
+overflow_add-carriages c = let b = block_reaches _ _ _ _ _ c.loop-part.invariant.inside c.in-Ok.ensures refl in omega arith
 
-pub loop-p-preserved : goal.loop-p-preserved
-loop-p-preserved c =
-    let l = c.loop-p in
-    elim c.if-is_part.branch [
-      | then-is_part+in-Reached w ↦
-          rw (w.at-is, w.carriages-is) (block_moves (record { cutting = l.invariant; more = c.loop-p-test.true; part = sym c.is_part.ensures ∙ w.if-is_part.true }) w.check_block-block.ensures w.in-Reached.is)
-      | else-is_part w ↦ rw (w.at-is, w.carriages-is) (cutting_skips l.invariant c.loop-p-test.true c.is_part.ensures w.if-is_part.false)
-    ]
+pub loop-part-preserved : goal.loop-part-preserved
+loop-part-preserved c =
+    let i = c.loop-part.invariant in
+    record {
+      inside = block_reaches _ _ _ _ _ i.inside c.in-Ok.ensures refl;
+      few = omega arith;
+      gives = walk_goes (cuts_walk _ _ _ _ _) i.gives c.in-Some.ensures.steps (block_onward _ _ _ _ _ i.inside c.in-Ok.ensures c.loop-part.carriages);
+    }
 
-pub returns : goal.returns
-returns c = cutting_ends c.loop-p.invariant c.loop-p-test.false
+pub returns-clause-gives : goal.returns-clause-gives
+returns-clause-gives c = walk_ends (cuts_walk _ _ _ _ _) c.loop-part.invariant.gives c.in-None.ensures.steps.0

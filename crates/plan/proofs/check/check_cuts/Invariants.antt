@@ -1,8 +1,18 @@
--- `plan::check::check_cuts` meets its contract. The invariant of its loop: the parts that are left give the answer of the whole (`Steps`). The
--- measure is how many sets are left to look at. Assumes nothing.
+-- The invariant of its loop: the blocks of the parts that are left give the answer of the whole. Assumes nothing.
+use mathlib.Core.Path.{◌≡◌}
+use Prim.Native.Nat.{◌≤◌}
+use lib.ListN.{length}
 use Rattle.network.specs.Rows.{links_of}
-use Rattle.plan.proofs.Steps.{Cutting}
+use Rattle.plan.specs.Due.{blocks_of}
+use Rattle.plan.specs.Ahead.{parts, parts_left}
+use Rattle.plan.specs.Check.{check_blocks}
 use Rattle.plan.proofs.check.check_cuts.Given as goal
 
-abbrev pub invariant-loop-p : goal.invariant-loop-p
-invariant-loop-p l = Cutting l.n l.f (links_of l.rows) l.plan l.fault l.start l.before l.limit l.sound l.p l.at l.carriages
+abbrev pub invariant-loop-part : goal.invariant-loop-part
+invariant-loop-part l =
+    record {
+      inside : l.at ≤ length l.plan;
+      few : l.carriages ≤ l.at;
+      gives : check_blocks l.site.n l.site.f (links_of l.site.rows) l.plan (blocks_of l.site.fault (parts_left l.part-iterator)) l.at l.carriages
+          ≡ check_blocks l.site.n l.site.f (links_of l.site.rows) l.plan (blocks_of l.site.fault (parts l.site.sound)) l.fn.start.at l.fn.start.carriages;
+    }

@@ -1,57 +1,24 @@
--- `plan::check::check_on` meets its contract. The blocks come first, by the rows of the links, then the end of the plan. Assumes nothing.
-use mathlib.Core.Path.{◌≡◌, ap, ◌∙◌}
-use native.Mathlib.Omega.{arith}
-use Rattle.facts.proofs.Rows.{row_long}
-use Rattle.network.specs.Links.{Links}
-use Rattle.network.specs.Rows.{links_of}
-use Rattle.network.proofs.LinkRows.{links_back}
-use Rattle.plan.specs.Due.{due}
-use Rattle.plan.specs.Check.{check_blocks}
-use Rattle.plan.specs.Answers.{progress_of}
-use Rattle.plan.proofs.Plans.{on_long, on_halts, on_stops, on_ends}
-use borrow.Kind.Array.{e_bool}
+use mathlib.Core.Path.{refl, sym, ◌∙◌}
+use borrow.Author.Tests.{lt-ltb}
+use Rattle.std.proofs.lemmas.Result.{err_from_is_err_and}
+use Rattle.plan.specs.Check.{check_on}
+use Rattle.plan.proofs.Plans.{on_is, on_stops}
+use Rattle.plan.proofs.Joins.{then_stops, then_goes}
 use Rattle.plan.proofs.check.check_on.Goals as goal
 
 pub returns-then-plan-gt1048576 : goal.returns-then-plan-gt1048576
-returns-then-plan-gt1048576 c = let a = c.args in on_long a.n a.f a.links a.plan.now c.if-plan-gt1048576.true
+unfolding check_on
+returns-then-plan-gt1048576 c = sym (simp (lt-ltb _ _ c.if-plan-gt1048576.true))
 
-pub returns-in-Stopped : goal.returns-in-Stopped
-returns-in-Stopped c =
-    let same_links : (links_of c.rows-rows.result ≡ c.args.links) = let s = c in
-    let g = s.well_formed.1.1.0 in
-    ap links_of c.rows-rows.ensures ∙ links_back s.args.links (λ u h. row_long e_bool.ty.Denot e_bool.ty.own_val 8 s.args.links g.0 u g.1.1 (omega (arith, g.1.0.1))) g.1.0.1 in
-    let blocks : (let a = c.args in
-    progress_of c.check_blocks-blocks.result ≡ check_blocks a.n a.f a.links a.plan.now (due a.n a.f) 0 0) = let a = c.args in
-    c.check_blocks-blocks.ensures ∙ ap (λ (links : Links). check_blocks a.n a.f links a.plan.now (due a.n a.f) 0 0) same_links in
-    let b = c in
-    let e = b in
-    let a = e.args in
-    on_halts a.n a.f a.links a.plan.now e.if-plan-gt1048576.false _ blocks _ c.in-Stopped.is
+pub returns-in_err-blocks : goal.returns-in_err-blocks
+returns-in_err-blocks c =
+    let p = err_from_is_err_and c.from_residual.result c.from_residual.ensures.1 in
+    rw (p.1, p.2) (on_stops c.args.network _ c.if-plan-gt1048576.false _ (then_stops _ refl c.in_err-blocks.ensures))
 
-pub returns-in-Stopped-end : goal.returns-in-Stopped-end
-returns-in-Stopped-end c =
-    let same_links : (links_of c.rows-rows.result ≡ c.args.links) = let s = c in
-    let g = s.well_formed.1.1.0 in
-    ap links_of c.rows-rows.ensures ∙ links_back s.args.links (λ u h. row_long e_bool.ty.Denot e_bool.ty.own_val 8 s.args.links g.0 u g.1.1 (omega (arith, g.1.0.1))) g.1.0.1 in
-    let blocks : (let a = c.args in
-    progress_of c.check_blocks-blocks.result ≡ check_blocks a.n a.f a.links a.plan.now (due a.n a.f) 0 0) = let a = c.args in
-    c.check_blocks-blocks.ensures ∙ ap (λ (links : Links). check_blocks a.n a.f links a.plan.now (due a.n a.f) 0 0) same_links in
-    let k = c in
-    let b = k in
-    let e = b in
-    let a = e.args in
-    on_stops a.n a.f a.links a.plan.now e.if-plan-gt1048576.false _ blocks _ _ k.in-Reached.is _ k.check_end-end.ensures _ c.in-Stopped-end.is
+pub returns-in_err-end : goal.returns-in_err-end
+returns-in_err-end c =
+    let p = err_from_is_err_and c.from_residual-in_err-end.result c.from_residual-in_err-end.ensures.1 in
+    rw (p.1, p.2) (on_stops c.args.network _ c.if-plan-gt1048576.false _ (c.in_err-end.ensures ∙ then_goes _ refl c.in_ok-blocks.ensures))
 
-pub returns-in-Reached-end : goal.returns-in-Reached-end
-returns-in-Reached-end c =
-    let same_links : (links_of c.rows-rows.result ≡ c.args.links) = let s = c in
-    let g = s.well_formed.1.1.0 in
-    ap links_of c.rows-rows.ensures ∙ links_back s.args.links (λ u h. row_long e_bool.ty.Denot e_bool.ty.own_val 8 s.args.links g.0 u g.1.1 (omega (arith, g.1.0.1))) g.1.0.1 in
-    let blocks : (let a = c.args in
-    progress_of c.check_blocks-blocks.result ≡ check_blocks a.n a.f a.links a.plan.now (due a.n a.f) 0 0) = let a = c.args in
-    c.check_blocks-blocks.ensures ∙ ap (λ (links : Links). check_blocks a.n a.f links a.plan.now (due a.n a.f) 0 0) same_links in
-    let k = c in
-    let b = k in
-    let e = b in
-    let a = e.args in
-    on_ends a.n a.f a.links a.plan.now e.if-plan-gt1048576.false _ blocks _ _ k.in-Reached.is _ k.check_end-end.ensures _ _ c.in-Reached-end.is _ c.blocks_due.ensures
+pub returns : goal.returns
+returns c = on_is c.args.network _ c.if-plan-gt1048576.false c.blocks_due.ensures (c.in_ok-end.ensures ∙ then_goes _ refl c.in_ok-blocks.ensures)

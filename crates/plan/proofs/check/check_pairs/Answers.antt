@@ -1,33 +1,18 @@
-use borrow.Author.Rules.{rules}
-use Rattle.plan.proofs.Walks.{rowStep, pairs_walk}
-use Rattle.plan.proofs.Bounds.{rows_bound}
-use Rattle.plan.proofs.Lowests.{Taken, take_lowest, taken_less, taking_starts, taking_ends, taking_halts, taking_moves}
+use mathlib.Core.Path.{refl}
+use Rattle.std.proofs.lemmas.Result.{err_from_is_err_and}
+use Rattle.plan.proofs.Walks.{pairs_walk, walk_ends, walk_stops, walk_goes}
 use Rattle.plan.proofs.check.check_pairs.Goals as goal
 
-pub loop-left-init : goal.loop-left-init
-loop-left-init c = let s = c in taking_starts (search rules) s.requires.0 s.requires.1 (rows_bound _ _ _ _) (pairs_walk _ _ _ _ _ _ _)
+pub loop-receiver-init : goal.loop-receiver-init
+loop-receiver-init c = rw (c.into_iter-receiver-iterator.ensures.into_iter_gives, c.ascending-receiver-items.ensures) refl
 
-pub check_to_one-row-requires : goal.check_to_one-row-requires
-check_to_one-row-requires c =
-    let first : (let l = c.loop-left in Taken l.left c.lowest-receiver.result c.minus-others.result) = take_lowest c.loop-left.invariant.small c.loop-left-test.true c.lowest-receiver.ensures c.single.ensures c.minus-others.ensures in
-    let f = first in search rules
+pub returns-in_err-reached : goal.returns-in_err-reached
+returns-in_err-reached c =
+    let p = err_from_is_err_and c.from_residual.result c.from_residual.ensures.1 in
+    rw (p.1, p.2) (walk_stops (pairs_walk _ _ _ _) c.loop-receiver.invariant c.in-Some.ensures.steps c.in_err-reached.ensures)
 
-pub returns-in-Stopped : goal.returns-in-Stopped
-unfolding rowStep
-returns-in-Stopped c =
-    let first : (let l = c.loop-left in Taken l.left c.lowest-receiver.result c.minus-others.result) = take_lowest c.loop-left.invariant.small c.loop-left-test.true c.lowest-receiver.ensures c.single.ensures c.minus-others.ensures in
-    taking_halts c.loop-left.invariant first c.check_to_one-row.ensures c.in-Stopped.is
-
-pub loop-left-smaller : goal.loop-left-smaller
-loop-left-smaller c =
-    let first : (let l = c.loop-left in Taken l.left c.lowest-receiver.result c.minus-others.result) = take_lowest c.loop-left.invariant.small c.loop-left-test.true c.lowest-receiver.ensures c.single.ensures c.minus-others.ensures in
-    taken_less first
-
-pub loop-left-preserved : goal.loop-left-preserved
-unfolding rowStep
-loop-left-preserved c =
-    let first : (let l = c.loop-left in Taken l.left c.lowest-receiver.result c.minus-others.result) = take_lowest c.loop-left.invariant.small c.loop-left-test.true c.lowest-receiver.ensures c.single.ensures c.minus-others.ensures in
-    taking_moves c.loop-left.invariant first c.check_to_one-row.ensures c.in-Reached.is
+pub loop-receiver-preserved : goal.loop-receiver-preserved
+loop-receiver-preserved c = walk_goes (pairs_walk _ _ _ _) c.loop-receiver.invariant c.in-Some.ensures.steps c.in_ok-reached.ensures
 
 pub returns : goal.returns
-returns c = taking_ends c.loop-left.invariant (search rules)
+returns c = walk_ends (pairs_walk _ _ _ _) c.loop-receiver.invariant c.in-None.ensures.steps.0

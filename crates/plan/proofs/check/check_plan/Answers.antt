@@ -1,16 +1,21 @@
--- `plan::check::check_plan` meets its contract. The card reader gives the refusal, or a proper network, for which the plan is checked. Assumes
--- nothing.
-use mathlib.Core.Path.{sym, ap, ◌∙◌}
-use Rattle.network.specs.Answers.{reading_of}
-use Rattle.plan.proofs.Plans.{card_refused, card_few, card_checked}
+use mathlib.Core.Path.{ap, ◌∙◌}
+use Rattle.std.proofs.lemmas.Result.{err_from_is_err_and}
+use Rattle.network.specs.Card.{Network}
+use Rattle.plan.specs.Check.{check_on, check_plan}
 use Rattle.plan.proofs.check.check_plan.Goals as goal
 
-pub check_on-requires : goal.check_on-requires
-check_on-requires c = let a = c.args in
-    card_few a.card.now a.plan.now _ _ _ _ (sym c.read_card-reading.ensures.reading ∙ ap reading_of c.in-Network.is) c.read_card-reading.ensures.links
+pub returns-in_err-network : goal.returns-in_err-network
+unfolding check_plan check_on
+returns-in_err-network c =
+    let p = err_from_is_err_and c.from_residual.result c.from_residual.ensures.1 in
+    rw (p.1, p.2) (ap (λ (a : Network). check_on a c.args.plan.now) c.in_err-network.ensures)
 
-pub returns-in-Refused : goal.returns-in-Refused
-returns-in-Refused c = card_refused _ _ _ (sym c.read_card-reading.ensures.reading ∙ ap reading_of c.in-Refused.is)
+pub returns-in_err-totals : goal.returns-in_err-totals
+unfolding check_plan
+returns-in_err-totals c =
+    let p = err_from_is_err_and c.from_residual-in_err-totals.result c.from_residual-in_err-totals.ensures.1 in
+    rw (p.1, p.2) (c.in_err-totals.ensures ∙ ap (λ (a : Network). check_on a c.args.plan.now) c.in_ok-network.ensures)
 
-pub returns-in-Network : goal.returns-in-Network
-returns-in-Network c = card_checked _ _ _ _ _ _ (sym c.read_card-reading.ensures.reading ∙ ap reading_of c.in-Network.is) c.read_card-reading.ensures.links _ c.check_on.ensures
+pub returns : goal.returns
+unfolding check_plan
+returns c = c.in_ok-totals.ensures ∙ ap (λ (a : Network). check_on a c.args.plan.now) c.in_ok-network.ensures

@@ -1,12 +1,33 @@
--- `plan::check::is_report` meets its contract. Each test turns one part of the definition (`Reports`). Assumes nothing.
-use Rattle.plan.proofs.Reports.{report_outside, report_few, report_linked}
+-- Each test turns one part of the definition. Assumes nothing.
+use mathlib.Core.Path.{sym, ap, ◌∙◌}
+use Prim.Native.Nat.{ℕ, ◌+◌}
+use lib.Dec.{eqb}
+use Rattle.facts.proofs.Bools.{clash}
+use Rattle.sets.specs.Sets.{within}
+use Rattle.plan.specs.Check.{is_report}
 use Rattle.plan.proofs.check.is_report.Goals as goal
+use Rattle.plan.proofs.check.is_report.Goals.{then-within, else-within}
 
-pub returns-then-size-f : goal.returns-then-size-f
-returns-then-size-f c = report_linked _ _ _ _ _ _ c.requires.0 _ _ c.full.ensures c.minus-sound.ensures _ c.within.ensures c.if-within.true _ c.size-size.ensures c.if-size-f.true _ c.all_linked.ensures
+pub returns-then-size-site : goal.returns-then-size-site
+unfolding is_report
+returns-then-size-site c =
+    let s = c.args.site.now in
+    let inside = c.within.ensures ∙ ap (within c.args.reporters) s.rest in
+    elim c.if-within.branch [
+      | then-within w ↦
+          let many = ap (λ (x : ℕ). eqb x (s.f + 1)) (sym w.size.ensures) ∙ sym w.value-is ∙ c.if-size-site.true in
+          c.all_linked.ensures ∙ sym (simp (sym inside ∙ w.if-within.true, many))
+      | else-within w ↦ clash _ (sym w.value-is ∙ c.if-size-site.true) w.if-within.false
+    ]
 
-pub returns-then-within : goal.returns-then-within
-returns-then-within c = report_few _ _ _ _ _ _ c.requires.0 _ _ c.full.ensures c.minus-sound.ensures _ c.within.ensures c.if-within.true _ c.size-size.ensures c.if-size-f.false
-
-pub returns : goal.returns
-returns c = report_outside _ _ _ _ _ _ c.requires.0 _ _ c.full.ensures c.minus-sound.ensures _ c.within.ensures c.if-within.false
+pub returns-else-size-site : goal.returns-else-size-site
+unfolding is_report
+returns-else-size-site c =
+    let s = c.args.site.now in
+    let inside = c.within.ensures ∙ ap (within c.args.reporters) s.rest in
+    c.if-size-site.false ∙ elim c.if-within.branch [
+      | then-within w ↦
+          let many = ap (λ (x : ℕ). eqb x (s.f + 1)) (sym w.size.ensures) ∙ sym w.value-is ∙ c.if-size-site.false in
+          sym (simp (sym inside ∙ w.if-within.true, many))
+      | else-within w ↦ sym (simp (sym inside ∙ w.if-within.false))
+    ]
