@@ -1,6 +1,7 @@
 -- What an accepted plan is to code that goes through its blocks: every read is in range.
 --     runnable            blocks that are within the rules and encode to the bytes can be gone through
 --     accepted_blocks     so can those of an accepted plan
+--     accepted_whole      the same as the code keeps it
 -- Assumes nothing.
 use mathlib.Core.Path.{◌≡◌, sym, ap, ◌∙◌, subst}
 use mathlib.Core.List.Memᴰ
@@ -23,7 +24,7 @@ use Rattle.rules.proofs.Groups.{encode_long}
 use Rattle.rules.proofs.Reports.{reports_long}
 use Rattle.rules.proofs.Whole.{decode_length}
 use Rattle.rules.proofs.Main.{exact, decodes, totalled}
-use Rattle.carriage.specs.Openings.{Servers, ReportOf, Readable, Runnable}
+use Rattle.carriage.specs.Openings.{Servers, ReportOf, Readable, Runnable, Opened}
 
 servers_of_lem : (n : ℕ) (links : Links) (F : ℕ) → n ≤ 8 → (ps : List Route) → Each (IsRoute n links F) ps → Each Servers ps
 servers_of_lem n links F few ps h = λ p m. let r = h p m in record { two = r.two; eight = λ i l. let b = r.servers i l in omega arith }
@@ -93,3 +94,10 @@ accepted_blocks card s n f links e blocks carriages q =
     let (short, runs) = accepted_runnable card s n f links e (blocks, carriages, q) in
     let many = (totalled card s n f links e blocks carriages q).0 ∙ decode_length n f s (length (due n f)) in
     (many, short, rw many runs)
+
+-- and so the code can go through them
+pub accepted_whole : (card s : List ℕ) (n f : ℕ) (links : Links) → network n f links ≡ read_card card → (blocks carriages : ℕ) → totals blocks carriages ≡ check_plan card s → Opened n f s blocks
+accepted_whole card s n f links e blocks carriages q =
+    let p = card_proper card n f links (sym e) in
+    let (many, short, runs) = accepted_blocks card s n f links (sym e) blocks carriages (sym q) in
+    record { few = p.most; bound = p.bound; short = short; runs = runs }

@@ -4,11 +4,11 @@
 -- Opened      what the opening command of a block fixes
 -- Placed      where the routes and reports of a block stand in its bytes
 -- Accepting   what an accepted plan is to code that goes through its blocks
--- Blocks      the block that starts at a place of the plan
+-- Starts      the block that starts at a place of the plan
 pub mod Messages
 pub mod Walking
 pub mod Routes
 pub mod Opened
 pub mod Placed
 pub mod Accepting
-pub mod Blocks
+pub mod Starts

@@ -4,6 +4,8 @@
 --     Readable n f s     the block that starts s is whole, and its routes and reports name servers
 --     Runnable n f s k   so are the k blocks from here on
 --     Ready o s          o is what the opening command of such a block fixes
+use Rattle.std.specs.Coded.{Unit-prop, ×_prop}
+use Rattle.std.proofs.Props.{props}
 use Rattle.std.specs.Prelude.{◌≡◌, List, ℕ, zero, suc, min, ◌+◌, ◌-◌, ◌*◌, ◌≤◌, ◌<◌, length, get_or, drop}
 use Rattle.sets.specs.Sets.{minus, full, size}
 use Rattle.rules.specs.Blocks.{Route, Block, inward_due, among_due, outward_due, decode_block, length_of, Report}
@@ -67,3 +69,15 @@ pub record Ready (o : Opening) (s : List ℕ) : Type 0 where
   pub short : length s ≤ 1048576
   pub opens : Opens o.n o.f s o
   pub readable : Readable o.n o.f s
+
+-- n and f are those of a network, and the first k blocks of the plan are whole
+pub record Opened (n f : ℕ) (plan : List ℕ) (k : ℕ) : Type 0 where
+  pub few : n ≤ 8
+  pub bound : f ≤ 2
+  pub short : length plan ≤ 1048576
+  pub runs : Runnable n f plan k
+
+-- it is either so or not
+pub Runnable-prop : (n f : ℕ) (s : List ℕ) (k : ℕ) → IsProp (Runnable n f s k)
+Runnable-prop n f s zero = Unit-prop
+Runnable-prop n f s (suc k) = ×_prop (Prim.hlevel props) (Runnable-prop n f (drop (length_of (decode_block n f s)) s) k)

@@ -3,5 +3,7 @@
 #![tactic(auto)]
 
 pub mod arrival;
+pub mod block;
+pub mod blocks;
 pub mod opening;
 pub mod walk;

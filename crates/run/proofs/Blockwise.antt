@@ -3,16 +3,15 @@
 --     block_runs      with it the other three steps' results make up the block's
 --     block_numbers   how many carriages the block has
 --     Along           how far the blocks are run; blocks_start, blocks_end, and blocks_turn for one block more
---     ready           the next block is ready to run; block_room: it ends inside the plan
+--     blocks_room     the numbers of the carriages stay small
 -- Assumes nothing.
 use mathlib.Core.Path.{◌≡◌, refl, sym, ap, ◌∙◌}
 use mathlib.Core.List.Memᴰ
 use mathlib.Core.List.{List, [], ◌∷◌, ◌++◌, map}
 use Prim.Native.Nat.{ℕ, zero, suc, ◌+◌, ◌-◌, ◌*◌, ◌≤◌, ◌<◌, min}
 use native.Mathlib.Omega.{arith}
-use lib.ListN.{length, drop, length-append, length-map}
-use lib.Seq.{drop-drop}
-use Rattle.sets.specs.Sets.{minus, meet, full, size, TableOf}
+use lib.ListN.{length, length-append, length-map, length-drop}
+use Rattle.sets.specs.Sets.{minus, meet, full}
 use Rattle.sets.specs.Members.{members}
 use Rattle.plan.proofs.Cuts.{full_few}
 use Rattle.rules.specs.Blocks.{Report, Block, carriage_of, report_from, report_carriages, carriages_of, decode_block, length_of, decode_blocks}
@@ -20,11 +19,12 @@ use Rattle.facts.specs.Lists.{Each}
 use Rattle.rules.proofs.Lists.{length_members}
 use Rattle.steps.specs.Steps.{Values, step1, gather, compare, step5, step6, run_block, run_blocks}
 use Rattle.run.specs.Speaking.{bits_of, works_of}
-use Rattle.carriage.specs.Openings.{ReportOf, Readable, Runnable, OpensBy, Ready, block_at}
+use Rattle.carriage.specs.Openings.{ReportOf, Runnable, Ready, block_at}
+use Rattle.carriage.specs.Passing.{Passed}
 use Rattle.carriage.specs.declared.opening.Opening.{Opening}
-use Rattle.carriage.proofs.Placed.{fault_is, side_is, quorum_is, inward_long, among_long, outward_long, reports_are}
-use Rattle.carriage.proofs.Routes.{part_from}
-use Rattle.carriage.proofs.Blocks.{block_ready, block_is, bytes_are, bytes_fit}
+use Rattle.carriage.specs.declared.block.Block as Code
+use Rattle.carriage.specs.declared.blocks.Blocks.{Blocks}
+use Rattle.carriage.proofs.Placed.{fault_is, side_is, quorum_is, inward_long, among_long, outward_long, reports_are, block_bytes}
 
 -- the six steps
 
@@ -116,74 +116,56 @@ thrice x (suc zero) h = omega arith
 thrice x (suc (suc zero)) h = omega arith
 thrice x (suc (suc (suc f))) h = absurd (omega arith)
 
--- how far the blocks are run: k of them, `at` bytes and `number` carriages, and the rest gives the answer of the whole
-pub record Along (n f X : ℕ) (table plan : List ℕ) (blocks : ℕ) (start : Values) (k at number : ℕ) (v t : List ℕ) : Type 0 where
-  pub below : k ≤ blocks
-  pub inside : at ≤ length plan
-  pub behind : number ≤ at
-  pub runs : Runnable n f (drop at plan) (blocks - k)
-  pub same : run_blocks n X table number (decode_blocks n f (drop at plan) (blocks - k)) (record { v = v; t = t }) ≡ run_blocks n X table 0 (decode_blocks n f plan blocks) start
+fits_front : (n f : ℕ) (s : List ℕ) (k m : ℕ) → k ≡ suc m → Runnable n f s k → length_of (decode_block n f s) ≤ length s
+fits_front n f s k m e r = let q = rw e at r in q.0.fits
 
--- the block at this place ends inside the plan, and the numbers of its carriages stay below the bytes
-pub record Room (plan : List ℕ) (at number : ℕ) (o : Opening) : Type 0 where
-  pub bytes : at + o.bytes ≤ length plan
-  pub numbers : number + o.carriages ≤ at + o.bytes
+-- the blocks that are left give the answer of the whole; so far there are no more carriages than bytes
+pub record Along (X : ℕ) (table : List ℕ) (whole : Values) (s : Blocks) (number : ℕ) (v t : List ℕ) : Type 0 where
+  pub behind : number + length s.rest.now ≤ 1048576
+  pub same : run_blocks s.n X table number (decode_blocks s.n s.f s.rest.now s.left) (record { v = v; t = t }) ≡ whole
 
-pub blocks_start : (n f X : ℕ) (table plan : List ℕ) (blocks : ℕ) (v t : List ℕ) → Runnable n f plan blocks
-    → Along n f X table plan blocks (record { v = v; t = t }) 0 0 0 v t
-blocks_start n f X table plan blocks v t h =
-    let z : blocks - 0 ≡ blocks = omega arith in
-    record { below = omega arith; inside = omega arith; behind = omega arith; runs = rw z h; same = rw z refl }
+pub blocks_start : (X : ℕ) (table : List ℕ) (s : Blocks) (v t : List ℕ)
+    → Along X table (run_blocks s.n X table 0 (decode_blocks s.n s.f s.rest.now s.left) (record { v = v; t = t })) s 0 v t
+blocks_start X table s v t = record { behind = let w = s.whole.short in omega arith; same = refl }
 
-pub blocks_end : (n f X : ℕ) (table plan : List ℕ) (blocks : ℕ) (start : Values) (k at number : ℕ) (v t : List ℕ) → Along n f X table plan blocks start k at number v t
-    → blocks ≤ k → ◌≡◌ {A = Values} (record { v = v; t = t }) (run_blocks n X table 0 (decode_blocks n f plan blocks) start)
+pub blocks_end : (X : ℕ) (table : List ℕ) (whole : Values) (s : Blocks) (number : ℕ) (v t : List ℕ) → Along X table whole s number v t → s.left ≡ 0
+    → ◌≡◌ {A = Values} (record { v = v; t = t }) whole
 unfolding run_blocks decode_blocks
-blocks_end n f X table plan blocks start k at number v t a l =
-    let z : blocks - k ≡ 0 = omega arith in
-    rw z at a.same
+blocks_end X table whole s number v t a l = rw l at a.same
 
-module _ (n f X : ℕ) (table plan : List ℕ) (blocks : ℕ) (start : Values) (k at number : ℕ) (v t : List ℕ)
-    (along : Along n f X table plan blocks start k at number v t) (more : k < blocks) where
-  left : blocks - k ≡ suc (blocks - (k + 1))
-  left = omega arith
+module _ (X : ℕ) (table : List ℕ) (whole : Values) (s : Blocks) (number : ℕ) (v t : List ℕ) (along : Along X table whole s number v t)
+    (b : Code.Block) (later : Blocks) (p : Passed s b later) where
+  front : length_of (decode_block s.n s.f s.rest.now) ≤ length s.rest.now
+  front = fits_front s.n s.f s.rest.now s.left later.left p.left s.whole.runs
 
-  here : Readable n f (drop at plan) × Runnable n f (drop (length_of (decode_block n f (drop at plan))) (drop at plan)) (blocks - (k + 1))
-  here = rw left at along.runs
+  -- the carriages of the block are no more than its bytes
+  carried : b.opening.carriages ≤ length_of (decode_block s.n s.f s.rest.now)
+  carried =
+      let h = b.ready.opens in
+      let a = thrice b.opening.reports b.opening.f b.ready.bound in
+      let c = h.bytes in
+      let d = h.carriages in
+      let e = block_bytes b.opening b.bytes.now b.ready in
+      let g = ap length_of p.block in
+      omega arith
 
-  module _ (few : n ≤ 8) (bound : f ≤ 2) (short : length plan ≤ 1048576) (sizes : List ℕ) (table_is : TableOf size sizes) (o : Opening)
-      (by : OpensBy sizes n f (part_from plan at) o) (u : o.fault < 256) (q : o.quorum < 256) where
-    pub ready : Ready o (part_from plan at)
-    ready = block_ready n f plan at few bound short here.0 sizes table_is o by u q
+  behind : number + b.opening.carriages + length later.rest.now ≤ 1048576
+  behind =
+      let a = along.behind in
+      let c = carried in
+      let d = length-drop (length_of (decode_block s.n s.f s.rest.now)) s.rest.now in
+      let e = ap length p.rest in
+      let g = front in
+      omega arith
 
-    numbers_behind : number + o.carriages ≤ at + o.bytes
-    numbers_behind =
-        let h = ready.opens in
-        let a = thrice o.reports o.f ready.bound in
-        let b = along.behind in
-        let c = h.bytes in
-        let d = h.carriages in
-        omega arith
+  pub blocks_room : (number ≤ 1048576) × (number + b.opening.carriages < 18446744073709551616)
+  blocks_room = let a = behind in (omega arith, omega arith)
 
-    pub block_room : Room plan at number o
-    block_room = record { bytes = bytes_fit n f plan at few bound short here.0 sizes table_is o by u q along.inside; numbers = numbers_behind }
-
-    pub blocks_turn : (v' t' : List ℕ) → ◌≡◌ {A = Values} (record { v = v'; t = t' }) (run_block o.n X table number (block_at o (part_from plan at)) (record { v = v; t = t }))
-        → Along n f X table plan blocks start (k + 1) (at + o.bytes) (number + o.carriages) v' t'
-    unfolding run_blocks decode_blocks
-    blocks_turn v' t' ran =
-        let b = decode_block n f (drop at plan) in
-        let is = block_is n f plan at few bound short here.0 sizes table_is o by u q in
-        let long : length_of b ≡ o.bytes = sym (bytes_are n f plan at few bound short here.0 sizes table_is o by u q) in
-        let many : length (carriages_of b) ≡ o.carriages = sym (ap (λ (x : Block). length (carriages_of x)) is) ∙ block_numbers o (part_from plan at) ready in
-        let now : ◌≡◌ {A = Values} (record { v = v'; t = t' }) (run_block n X table number b (record { v = v; t = t })) = ran ∙ rw (is, by.servers) refl in
-        let next : drop (length_of b) (drop at plan) ≡ drop (at + o.bytes) plan = rw long (drop-drop o.bytes at plan) in
-        let p = sym many in
-        let r = sym next in
-        let old : run_blocks n X table number (decode_blocks n f (drop at plan) (suc (blocks - (k + 1)))) (record { v = v; t = t }) ≡ run_blocks n X table 0 (decode_blocks n f plan blocks) start = rw left at along.same in
-        record {
-          below = omega arith;
-          inside = block_room.bytes;
-          behind = numbers_behind;
-          runs = rw next at here.1;
-          same = (λ i. run_blocks n X table (number + p i) (decode_blocks n f (r i) (blocks - (k + 1))) (now i)) ∙ old;
-        }
+  pub blocks_turn : (v' t' : List ℕ) → ◌≡◌ {A = Values} (record { v = v'; t = t' }) (run_block b.opening.n X table number (block_at b.opening b.bytes.now) (record { v = v; t = t }))
+      → Along X table whole later (number + b.opening.carriages) v' t'
+  unfolding run_blocks decode_blocks
+  blocks_turn v' t' ran =
+      let many : length (carriages_of (decode_block s.n s.f s.rest.now)) ≡ b.opening.carriages = sym (ap (λ (x : Block). length (carriages_of x)) p.block) ∙ block_numbers b.opening b.bytes.now b.ready in
+      let now : ◌≡◌ {A = Values} (record { v = v'; t = t' }) (run_block s.n X table number (decode_block s.n s.f s.rest.now) (record { v = v; t = t })) = ran ∙ (λ j. run_block (p.opened_n j) X table number (p.block j) (record { v = v; t = t })) in
+      let old = rw p.left at along.same in
+      record { behind = behind; same = rw (p.servers, p.bound, p.rest, now, ← many) old }

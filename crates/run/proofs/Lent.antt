@@ -1,11 +1,11 @@
 -- The inputs and the lent buffer as bytes.
---     bits-..              the loop that tests the inputs: what is left of them gives the answer of the whole
+--     bits_all             the test of the inputs, one for all
 --     Taking, taking-..    the loop that takes the servers with input 1
 --     unsure_first         where no server is sure, each t is 2
 --     Writing, writing-..  the loop that writes the decided bits: those written, then the bytes as they were
 -- Assumes nothing.
 use mathlib.Core.Path.{◌≡◌, refl, sym, ap, ◌∙◌}
-use mathlib.Core.Bool.{Bool, true, false, cond, ◌||◌}
+use mathlib.Core.Bool.{Bool, true, false, cond, ◌&&◌, ◌||◌}
 use mathlib.Core.List.{List, [], ◌∷◌, ◌++◌}
 use Prim.Native.Nat.{ℕ, zero, suc, ◌+◌, ◌≤◌, ◌<◌}
 use native.Mathlib.Numerals.{add-one}
@@ -14,6 +14,8 @@ use lib.ListN.{length, get_or, set, drop, replicate, length-set, drop_of_length-
 use lib.Seq.{drop-cons, set_at, append_snoc}
 use lib.Dec.{eqb, ltb}
 use borrow.Author.Tests.{lt-ltb, le-ltb, eq-eqb, ne_eqb, eqb-true, eqb-false, ltb-true, ltb-false}
+use Rattle.std.specs.List.{list_all}
+use Rattle.std.specs.Prelude.{nat_lt}
 use Rattle.facts.proofs.Bools.{cases}
 use Rattle.sets.specs.Sets.{has, single, union}
 use Rattle.sets.proofs.Members.{has_empty, has_union, has_single}
@@ -25,22 +27,10 @@ use Rattle.steps.proofs.Decides.{bits_at}
 
 -- the inputs are bits
 
-module _ (s : List ℕ) (i : ℕ) (so : are_bits (drop i s) ≡ are_bits s) where
-  pub bits_done : length s ≤ i → true ≡ are_bits s
-  unfolding are_bits
-  bits_done h = let d = drop_of_length-le s h in rw d at so
-
-  module _ (h : i < length s) where
-    now : are_bits (get_or s i 0 ∷ drop (i + 1) s) ≡ are_bits s
-    now = let a = add-one i in let d = drop-cons s i 0 h in rw a (rw d at so)
-
-    pub bits_lack : 1 < get_or s i 0 → false ≡ are_bits s
-    unfolding are_bits
-    bits_lack l = let t = le-ltb (get_or s i 0) 2 l in rw t at now
-
-    pub bits_go : get_or s i 0 ≤ 1 → are_bits (drop (i + 1) s) ≡ are_bits s
-    unfolding are_bits
-    bits_go l = let t = lt-ltb (get_or s i 0) 2 (omega arith) in rw t at now
+pub bits_all : (s : List ℕ) → list_all (λ (x : ℕ). nat_lt x 2) s ≡ are_bits s
+unfolding are_bits
+bits_all [] = refl
+bits_all (x ∷ s) = ap (λ (b : Bool). ltb x 2 && b) (bits_all s)
 
 -- the inputs are the values
 

@@ -4,7 +4,7 @@
 --     heard_other              what any other server hears: the rest alone
 --     Gathering, gathering-..  the loop over the reports of a block: with what is left of them, what is held becomes that of the whole
 -- Assumes nothing.
-use mathlib.Core.Path.{◌≡◌, refl}
+use mathlib.Core.Path.{◌≡◌, refl, ap}
 use mathlib.Core.Bool.{Bool, true, false, cond}
 use mathlib.Core.List.Memᴰ
 use mathlib.Core.List.{List, [], ◌∷◌, ◌++◌}
@@ -18,15 +18,18 @@ use Rattle.facts.proofs.Bools.{cases}
 use Rattle.sets.specs.Sets.{has, size}
 use Rattle.sets.proofs.Counts.{size_le}
 use Rattle.sets.specs.Members.{members}
-use Rattle.plan.proofs.Lowests.{members_none, Taken, taken_less}
 use Rattle.rules.specs.Blocks.{Carriage, report_from, reports_at, report_carriages}
 use Rattle.facts.specs.Lists.{Each}
-use Rattle.rules.proofs.Lists.{length_members}
+use Rattle.rules.proofs.Lists.{length_members, members_in}
 use Rattle.steps.specs.Hearing.{hit, message, brought, heard}
 use Rattle.run.specs.Speaking.{Adds, Speaks, reported}
 use Rattle.carriage.specs.Openings.{ReportOf}
 use Rattle.run.specs.declared.hearing.Against.{Against}
 use Rattle.run.proofs.Speaking.{adds_none, adds_then, adds_speaks}
+
+-- a reporter is one of the eight servers that there can be
+pub telling_eight : (left m : ℕ) (rest : List ℕ) → members left ≡ m ∷ rest → m < 8
+telling_eight left m rest e = (members_in left m (rw e (Memᴰ.head refl))).1
 
 -- the reports of one command
 
@@ -44,35 +47,33 @@ module _ (X : ℕ) (table : List ℕ) (first : ℕ) (h : ℕ → ℕ) (before : 
   abbrev pub Told : (number left : ℕ) → ℕ → List ℕ
   Told number left i = cond (eqb r i) (reported X table number h (members left)) []
 
-  pub record Telling (against : Against) (number left : ℕ) : Type 0 where
-    pub byte : left < 256
+  pub record Telling (against : Against) (number : ℕ) (left : ℕ) : Type 0 where
     pub few : number + length (members left) ≤ first + 8
     pub same : (b : Against) → Adds against (Told number left) b → Adds before (Told first N) b
 
-  pub telling_starts : N < 256 → Telling before first N
-  telling_starts l = let e = length_members N in let b = size_le N in record { byte = l; few = omega arith; same = λ b a. a }
+  pub telling_starts : Telling before first N
+  telling_starts = let e = length_members N in let b = size_le N in record { few = omega arith; same = λ b a. a }
 
   module _ (against : Against) (number left : ℕ) (t : Telling against number left) where
-    pub telling_done : left ≡ 0 → Adds before (Told first N) against
+    pub telling_done : members left ≡ [] → Adds before (Told first N) against
     unfolding reported
-    telling_done z = t.same against (adds_none against _ (λ i. rw (z, members_none) (nothing (eqb r i))))
+    telling_done z = t.same against (adds_none against _ (λ i. rw z (nothing (eqb r i))))
 
     -- the lowest reporter left is taken out
-    module _ {m others : ℕ} (k : Taken left m others) where
+    module _ (m others : ℕ) (split : members left ≡ m ∷ members others) where
       pub telling_fits : first + 8 < 18446744073709551616 → number + 1 < 18446744073709551616
-      telling_fits p = let l = taken_less k in let f = t.few in omega arith
+      telling_fits p = let l = ap length split in let f = t.few in omega arith
 
       module _ (x : ℕ) (q : x ≡ cond (has X m) (message table number) (h m)) (next : Against) (p : Adds against (λ (i : ℕ). cond (eqb r i) (x ∷ []) []) next) where
         told_turn : (i : ℕ) → Told number left i ≡ cond (eqb r i) (x ∷ []) [] ++ Told (number + 1) others i
         unfolding reported
-        told_turn i = let e = add-one number in rw (k.split, e, q) (in_turn (eqb r i) _ _)
+        told_turn i = let e = add-one number in rw (split, e, q) (in_turn (eqb r i) _ _)
 
         pub telling_goes : Telling next (number + 1) others
         telling_goes =
-            let l = taken_less k in
+            let l = ap length split in
             let f = t.few in
             record {
-              byte = k.small;
               few = omega arith;
               same = λ b a. t.same b (adds_then against next b _ _ _ p a told_turn);
             }

@@ -1,30 +1,30 @@
 // A block's six steps.
 ghost use Rattle.std.specs.Prelude.{◌≡◌, ◌≤◌};
 ghost use Rattle.steps.specs.Steps.{run_block};
-ghost use Rattle.carriage.specs.Openings.{Ready, block_at};
+ghost use Rattle.carriage.specs.Openings.{block_at};
 ghost use Rattle.run.specs.Answers.{values_of};
 
 use crate::values::Values;
-use carriage::opening::Opening;
+use carriage::block::Block;
 
-// The values after the six steps of the block that starts here.
+// The values after the six steps of this block, whose first carriage has this number.
 pub(crate) fn run_block(
     before: Values,
-    opening: Opening,
+    block: &Block,
     faulty: u8,
     table: &[u8],
     number: usize,
-    block: &[u8],
 ) -> Values
-    requires { Ready opening block.now × (number ≤ 1048576) }
-    ensures { values_of result ≡ run_block opening.n faulty table.now number (block_at opening block.now) (values_of before) }
+    requires { number ≤ 1048576 }
+    ensures { values_of result ≡ run_block block.now.opening.n faulty table.now number (block_at block.now.opening block.now.bytes.now) (values_of before) }
 {
+    let opening = block.opening;
     let sound = sets::minus(sets::full(opening.n), opening.fault);
     let kept = sets::meet(opening.side, opening.quorum);
     let s1 = before.step1(opening.side);
-    let s2 = s1.step2(opening, faulty, table, number, block);
-    let s3 = s2.step3(opening, faulty, table, number, block);
-    let s4 = s3.step4(opening, faulty, table, number, block);
+    let s2 = s1.step2(block, faulty, table, number);
+    let s3 = s2.step3(block, faulty, table, number);
+    let s4 = s3.step4(block, faulty, table, number);
     let s5 = s4.step5(sound, kept);
-    s5.step6(opening, faulty, table, number, block)
+    s5.step6(block, faulty, table, number)
 }

@@ -1,68 +1,41 @@
 // A call to run: card and plan are checked before the first block, then the call is.
-ghost use Rattle.std.specs.Prelude.{◌≡◌, true, ◌++◌, ◌≤◌, length, drop, replicate};
-ghost use Rattle.plan.specs.Check.{totals};
+ghost use Rattle.std.specs.Prelude.{◌≡◌, true, ◌++◌, ◌≤◌, length, drop, replicate, OnOk, nat_lt};
+ghost use Rattle.std.specs.List.{list_all};
+ghost use Rattle.plan.specs.declared.check.Totals.{Totals};
+ghost use Rattle.plan.specs.Check;
 ghost use Rattle.rules.specs.Blocks.{decode_blocks};
 ghost use Rattle.steps.specs.Steps.{held, values, run_blocks};
-ghost use Rattle.steps.specs.Run.{are_bits, check_call, decided, after_answer};
+ghost use Rattle.steps.specs.Run.{are_bits, check_call, decided};
 ghost use Rattle.run.specs.Speaking.{bits_of, works_of};
-ghost use Rattle.carriage.specs.Openings.{Runnable};
-ghost use Rattle.run.specs.Answers.{values_of, ran_of, Answered};
+ghost use Rattle.run.specs.Answers.{values_of, call_of, Answered};
 
 use crate::values::Values;
 use crate::{block, hearing};
-use carriage::opening;
-use network::card;
-use network::card::Reading;
+use carriage::blocks::Blocks;
+use network::Network;
 use plan::check;
-use plan::check::Checked;
+use plan::check::Totals;
 use refusal::{CallGround, Refusal};
 
-#[derive(Drop)]
-pub enum Ran {
-    // How many blocks and carriages were run; the decided bits are in the lent buffer.
-    Answered { blocks: usize, carriages: usize },
-    // The card, the plan or the call is refused.
-    Refused(Refusal),
-}
-
 // The blocks of an accepted plan, in plan order.
-fn run_blocks(
-    n: u8,
-    f: u8,
-    blocks: usize,
-    start: Values,
-    faulty: u8,
-    table: &[u8],
-    plan: &[u8],
-) -> Values
-    requires { (n ≤ 8) × (f ≤ 2) × (length plan.now ≤ 1048576) × Runnable n f plan.now blocks }
-    ensures { values_of result ≡ run_blocks n faulty table.now 0 (decode_blocks n f plan.now blocks) (values_of start) }
+fn run_blocks(plan: &Blocks, start: Values, faulty: u8, table: &[u8]) -> Values
+    ensures { values_of result ≡ run_blocks plan.now.n faulty table.now 0 (decode_blocks plan.now.n plan.now.f plan.now.rest.now plan.now.left) (values_of start) }
 {
-    let sizes = sets::sizes();
     let mut values = start;
-    let mut at: usize = 0;
     let mut number: usize = 0;
-    for k in 0..blocks {
-        let part = &plan[at..];
-        let opening = opening::read_opening(n, f, part, &sizes);
-        let next = block::run_block(values, opening, faulty, table, number, part);
+    for part in *plan {
+        let next = block::run_block(values, &part, faulty, table, number);
         values = next;
-        at = at + opening.bytes;
-        number = number + opening.carriages;
+        number = number + part.opening.carriages;
     }
     values
 }
 
 // Every byte is 0 or 1.
 fn are_bits(inputs: &[u8]) -> bool
-    ensures { result ≡ are_bits inputs.now }
+    ensures { result ≡ list_all (λ x. nat_lt x 2) inputs.now }
 {
-    for i in 0..inputs.len() {
-        if 1 < inputs[i] {
-            return false;
-        }
-    }
-    true
+    inputs.iter().all(|x| *x < 2)
 }
 
 // At first v is the input and t is unsure.
@@ -71,8 +44,8 @@ fn first_values(inputs: &[u8]) -> Values
     ensures { (bits_of result.v ≡ values (held inputs.now)) × (works_of result.sure result.t ≡ replicate 8 2) }
 {
     let mut v: u8 = 0;
-    for i in 0..inputs.len() {
-        if inputs[i] == 1 {
+    for (i, x) in inputs.iter().enumerate() {
+        if *x == 1 {
             v = sets::union(v, sets::single(i as u8));
         }
     }
@@ -94,46 +67,33 @@ fn write(n: u8, faulty: u8, v: u8, lent: &mut [u8])
     }
 }
 
-// The call's own grounds, and the run of the blocks where there is none.
-fn answer(
-    n: u8,
-    f: u8,
-    blocks: usize,
-    carriages: usize,
-    plan: &[u8],
-    inputs: &[u8],
-    faulty: u8,
-    table: &[u8],
-    lent: &mut [u8],
-) -> Ran
-    requires { (n ≤ 8) × (f ≤ 2) × (length plan.now ≤ 1048576) × Runnable n f plan.now blocks }
-    ensures { (ran_of result ≡ check_call n f inputs.now faulty lent.old (totals blocks carriages)) × (lent.new ≡ after_answer (ran_of result) (decided n faulty (run_blocks n faulty table.now 0 (decode_blocks n f plan.now blocks) (record { v = values (held inputs.now); t = replicate 8 2 })).v ++ drop n lent.old) lent.old) }
+// The grounds of a call, in their order.
+fn check_call(n: u8, f: u8, inputs: &[u8], faulty: u8, lent: &[u8]) -> Result<(), CallGround>
+    requires { n ≤ 8 }
+    ensures ground { (answer : Check.Totals) → call_of result answer ≡ check_call n f inputs.now faulty lent.now answer }
+    ensures passed { OnOk result ((length inputs.now ≡ n) × (are_bits inputs.now ≡ true) × (n ≤ length lent.now)) }
 {
     let count = n as usize;
     if inputs.len() != count {
-        return Ran::Refused(Refusal::Call(CallGround::Inputs));
+        return Err(CallGround::Inputs);
     }
     if are_bits(inputs) {
         if sets::within(faulty, sets::full(n)) {
             if f < sets::size(faulty) {
-                return Ran::Refused(Refusal::Call(CallGround::FaultSet));
+                return Err(CallGround::FaultSet);
             }
             if lent.len() < count {
-                return Ran::Refused(Refusal::Call(CallGround::Buffer));
+                return Err(CallGround::Buffer);
             }
-            let start = first_values(inputs);
-            let last = run_blocks(n, f, blocks, start, faulty, table, plan);
-            let v = last.v;
-            write(n, faulty, v, &mut *lent);
-            return Ran::Answered { blocks, carriages };
+            return Ok(());
         }
-        return Ran::Refused(Refusal::Call(CallGround::FaultSet));
+        return Err(CallGround::FaultSet);
     }
-    Ran::Refused(Refusal::Call(CallGround::Inputs))
+    Err(CallGround::Inputs)
 }
 
 // The run: the decided bits into the lent buffer, and how many blocks and carriages there were; or
-// the one refusal, the card's first, then the plan's, then the call's.
+// the one refusal, the card's first, then the plan's, then the call's, with the buffer as it was.
 pub fn run(
     card: &[u8],
     plan: &[u8],
@@ -141,21 +101,19 @@ pub fn run(
     faulty: u8,
     table: &[u8],
     lent: &mut [u8],
-) -> Ran
+) -> Result<Totals, Refusal>
     ensures { Answered card.now plan.now inputs.now faulty table.now lent.old result lent.new }
 {
-    let mut links = [[false; 8]; 8];
-    let reading = card::read_card(card, &mut links);
-    match reading {
-        Reading::Refused(r) => Ran::Refused(r),
-        Reading::Network { n, f } => {
-            let checked = check::check_plan(card, plan);
-            match checked {
-                Checked::Refused(r) => Ran::Refused(r),
-                Checked::Accepted { blocks, carriages } => answer(
-                    n, f, blocks, carriages, plan, inputs, faulty, table, &mut *lent,
-                ),
-            }
-        }
-    }
+    let network = Network::read(card)?;
+    let totals = check::check_plan(card, plan)?;
+    check_call(network.n, network.f, inputs, faulty, lent)?;
+    let blocks = Blocks {
+        n: network.n,
+        f: network.f,
+        rest: plan,
+        left: totals.blocks,
+    };
+    let last = run_blocks(&blocks, first_values(inputs), faulty, table);
+    write(network.n, faulty, last.v, lent);
+    Ok(totals)
 }

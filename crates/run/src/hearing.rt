@@ -142,21 +142,15 @@ fn over_report(
     requires { (first + 8 < 18446744073709551616) × (receiver < 8) }
     ensures { Adds before (λ (i : ℕ). cond (eqb receiver i) (reported faulty table.now first (held (bits_of ones)) (members reporters)) []) result }
 {
-    let mut zero = before.zero;
-    let mut one = before.one;
+    let mut against = before;
     let mut number = first;
-    let mut left = reporters;
-    while left != 0 {
-        let m = sets::lowest(left);
-        let others = sets::minus(left, sets::single(m));
+    for m in sets::ascending(reporters) {
         let arrival = reported(faulty, table, number, ones, m);
-        let next = spoken(zero, one, receiver, arrival);
-        zero = next.zero;
-        one = next.one;
+        let next = spoken(against.zero, against.one, receiver, arrival);
+        against = next;
         number = number + 1;
-        left = others;
     }
-    Against { zero, one }
+    against
 }
 
 // What the reports of `count` commands speak against; each command has so many.

@@ -5,11 +5,11 @@ ghost use Rattle.sets.specs.Sets.{has, minus, full};
 ghost use Rattle.rules.specs.Blocks.{carriage_of, report_carriages};
 ghost use Rattle.steps.specs.Steps.{values, step1, gather, compare, step5, step6};
 ghost use Rattle.run.specs.Speaking.{work_of, bits_of, works_of, replaced, alike, settled};
-ghost use Rattle.carriage.specs.Openings.{Ready, block_at};
+ghost use Rattle.carriage.specs.Openings.{block_at};
 
 use crate::hearing;
 use crate::hearing::Against;
-use carriage::opening::Opening;
+use carriage::block::Block;
 
 // A value is held as a set of servers, so that a step changes all servers at the same time.
 #[derive(Drop)]
@@ -64,24 +64,18 @@ impl Values {
     }
 
     // 2. Each receiver of S−A: t is the common value if its arrivals are alike, else 2.
-    pub(crate) fn step2(
-        mut self,
-        opening: Opening,
-        faulty: u8,
-        table: &[u8],
-        number: usize,
-        block: &[u8],
-    ) -> Values
-        requires { Ready opening block.now × (number ≤ 1048576) }
-        ensures { (result.v ≡ self.v) × (works_of result.sure result.t ≡ gather faulty table.now number (map carriage_of (block_at opening block.now).inward) (minus opening.quorum opening.side) (works_of self.sure self.t)) }
+    pub(crate) fn step2(mut self, block: &Block, faulty: u8, table: &[u8], number: usize) -> Values
+        requires { number ≤ 1048576 }
+        ensures { (result.v ≡ self.v) × (works_of result.sure result.t ≡ gather faulty table.now number (map carriage_of (block_at block.now.opening block.now.bytes.now).inward) (minus block.now.opening.quorum block.now.opening.side) (works_of self.sure self.t)) }
     {
+        let opening = block.opening;
         let inward = hearing::over_routes(
             faulty,
             table,
             number,
             self.sure,
             self.t,
-            block,
+            block.bytes,
             4,
             opening.inward,
         );
@@ -92,17 +86,11 @@ impl Values {
     }
 
     // 3. All of S at the same time: t is kept if every arrival equals it, else 2.
-    pub(crate) fn step3(
-        mut self,
-        opening: Opening,
-        faulty: u8,
-        table: &[u8],
-        number: usize,
-        block: &[u8],
-    ) -> Values
-        requires { Ready opening block.now × (number ≤ 1048576) }
-        ensures { (result.v ≡ self.v) × (works_of result.sure result.t ≡ compare faulty table.now (number + opening.inward) (map carriage_of (block_at opening block.now).among) opening.quorum (works_of self.sure self.t)) }
+    pub(crate) fn step3(mut self, block: &Block, faulty: u8, table: &[u8], number: usize) -> Values
+        requires { number ≤ 1048576 }
+        ensures { (result.v ≡ self.v) × (works_of result.sure result.t ≡ compare faulty table.now (number + block.now.opening.inward) (map carriage_of (block_at block.now.opening block.now.bytes.now).among) block.now.opening.quorum (works_of self.sure self.t)) }
     {
+        let opening = block.opening;
         let place = 4 + 9 * opening.inward;
         let among = hearing::over_routes(
             faulty,
@@ -110,7 +98,7 @@ impl Values {
             number + opening.inward,
             self.sure,
             self.t,
-            block,
+            block.bytes,
             place,
             opening.among,
         );
@@ -123,17 +111,11 @@ impl Values {
     }
 
     // 4. Each receiver of V−F−S as in step 2.
-    pub(crate) fn step4(
-        mut self,
-        opening: Opening,
-        faulty: u8,
-        table: &[u8],
-        number: usize,
-        block: &[u8],
-    ) -> Values
-        requires { Ready opening block.now × (number ≤ 1048576) }
-        ensures { (result.v ≡ self.v) × (works_of result.sure result.t ≡ gather faulty table.now (number + opening.inward + opening.among) (map carriage_of (block_at opening block.now).outward) (minus (minus (full opening.n) opening.fault) opening.quorum) (works_of self.sure self.t)) }
+    pub(crate) fn step4(mut self, block: &Block, faulty: u8, table: &[u8], number: usize) -> Values
+        requires { number ≤ 1048576 }
+        ensures { (result.v ≡ self.v) × (works_of result.sure result.t ≡ gather faulty table.now (number + block.now.opening.inward + block.now.opening.among) (map carriage_of (block_at block.now.opening block.now.bytes.now).outward) (minus (minus (full block.now.opening.n) block.now.opening.fault) block.now.opening.quorum) (works_of self.sure self.t)) }
     {
+        let opening = block.opening;
         let earlier = opening.inward + opening.among;
         let place = 4 + 9 * earlier;
         let outward = hearing::over_routes(
@@ -142,7 +124,7 @@ impl Values {
             number + earlier,
             self.sure,
             self.t,
-            block,
+            block.bytes,
             place,
             opening.outward,
         );
@@ -165,17 +147,11 @@ impl Values {
 
     // 6. Each k of F: if its arrivals, the values v after step 5, are alike and 0 or 1, v becomes
     // that.
-    pub(crate) fn step6(
-        mut self,
-        opening: Opening,
-        faulty: u8,
-        table: &[u8],
-        number: usize,
-        block: &[u8],
-    ) -> Values
-        requires { Ready opening block.now × (number ≤ 1048576) }
-        ensures { (bits_of result.v ≡ step6 faulty table.now (number + opening.inward + opening.among + opening.outward) (report_carriages (block_at opening block.now).reports) opening.fault (bits_of self.v)) × (result.sure ≡ self.sure) × (result.t ≡ self.t) }
+    pub(crate) fn step6(mut self, block: &Block, faulty: u8, table: &[u8], number: usize) -> Values
+        requires { number ≤ 1048576 }
+        ensures { (bits_of result.v ≡ step6 faulty table.now (number + block.now.opening.inward + block.now.opening.among + block.now.opening.outward) (report_carriages (block_at block.now.opening block.now.bytes.now).reports) block.now.opening.fault (bits_of self.v)) × (result.sure ≡ self.sure) × (result.t ≡ self.t) }
     {
+        let opening = block.opening;
         let earlier = opening.inward + opening.among + opening.outward;
         let place = 4 + 9 * earlier;
         let each = (opening.f as usize) + 1;
@@ -184,7 +160,7 @@ impl Values {
             table,
             number + earlier,
             self.v,
-            block,
+            block.bytes,
             place,
             opening.reports,
             each,

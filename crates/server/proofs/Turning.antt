@@ -1,6 +1,6 @@
 -- The grounds of a call and the answer where there is none, as the code meets them.
---     site_card, ..       card and plan as the code checks them; site_open: what an accepted plan is to the code
---     value-.., values-.. what a server sends; filling-..: the loop that lays it down
+--     site_card, ..       card and plan as the code checks them; site_whole: what an accepted plan is to the code
+--     value-.., values-.. what a server sends
 --     commit_is           the commit of a kind, by the sets that the opening command fixes
 --     start-..            the grounds of a start
 --     ask-..              the grounds of an ask
@@ -13,85 +13,55 @@ use mathlib.Core.List.{List, [], ◌∷◌, ◌++◌}
 use Prim.Native.Nat.{ℕ, zero, suc, min, ◌+◌, ◌≤◌, ◌<◌}
 use native.Mathlib.Omega.{arith}
 use lib.Dec.{eqb, ltb}
-use lib.ListN.{length, set, drop, replicate, length-set}
+use lib.ListN.{length, drop, replicate}
 use borrow.Author.Tests.{eq-eqb, ne_eqb, lt-ltb, le-ltb, eqb-true, ltb-true}
+use Rattle.std.specs.Prelude.{Result, Ok, Err}
 use Rattle.facts.proofs.Bools.{cases, and_left, and_right}
-use Rattle.refusal.specs.Refused.{call, refusal_of}
+use Rattle.refusal.specs.Refused.{refusal_of}
 use Rattle.refusal.specs.declared.Refusal.{Refusal}
 use Rattle.refusal.specs.declared.CallGround.{CallGround}
 use Rattle.network.specs.Links.{Links}
-use Rattle.network.specs.Card.{Network, network, refused, read_card}
-use Rattle.network.specs.Answers.{reading_of}
-use Rattle.network.specs.Answers as Reader
-use Rattle.network.specs.declared.card.Reading.{Reading}
-use Rattle.network.proofs.Heads.{network_is, refused_of}
+use Rattle.network.specs.Card.{network, refused, read_card}
 use Rattle.network.proofs.Main.{card_proper}
-use Rattle.plan.specs.Check.{Totals, totals, turned, check_plan}
-use Rattle.plan.specs.Answers.{checked_of}
-use Rattle.plan.specs.declared.check.Checked.{Checked}
+use Rattle.plan.specs.Check.{totals, turned, check_plan}
 use Rattle.rules.specs.Blocks.{Block, Carriage}
 use Rattle.carriage.specs.declared.opening.Opening.{Opening}
-use Rattle.carriage.specs.Openings.{Ready, block_at}
+use Rattle.carriage.specs.Openings.{Ready, block_at, Opened}
 use Rattle.carriage.proofs.Accepting.{accepted_blocks}
 use Rattle.carriage.proofs.Placed.{fault_is, side_is, quorum_is}
 use Rattle.part.specs.Own.{source, Own, sent, given, received, carriages_of, commit11, commit12, commit13, commit14, committed}
 use Rattle.part.specs.State.{State, first, is_end, placed, stands, opened, next}
-use Rattle.part.specs.Calls.{Site, site, closed, site_on, site_of, block_of, Stepped, Asked, start_on, start_call, values_due, ask_on, ask_call, commit_on, commit_call}
+use Rattle.part.specs.Calls.{site, closed, site_of, block_of, Stepped, Asked, start_on, start_call, values_due, ask_on, ask_call, commit_on, commit_call}
 use Rattle.own.specs.declared.state.State as CodeState
 use Rattle.own.specs.Arrivals.{arrivals}
 use Rattle.own.specs.States.{state_of, moved_on}
 use Rattle.own.specs.Commits.{committed_on}
 use Rattle.own.proofs.Standing.{moved_next}
-use Rattle.server.specs.Places.{Opened}
-use Rattle.server.specs.Answers.{site_is, value_of, none, Stepping, Starting, Asking}
-use Rattle.server.specs.declared.turn.Outcome.{Outcome}
-use Rattle.server.specs.declared.turn.Stepped as CodeStepped
-use Rattle.server.specs.declared.turn.Asked as CodeAsked
-use Rattle.server.specs.declared.turn.Site as CodeSite
+use Rattle.server.specs.Answers.{value_of, started_of, Stepping, Starting, Asking}
 use Rattle.server.proofs.Arriving.{received_are}
 
--- what card and plan are where both are accepted
+-- card and plan as the code checks them
 
-abbrev answered : Site → ℕ
-answered (site n f blocks) = 1
-answered (closed r) = 0
-
-module _ (n f blocks : ℕ) where
-  pub record Network-of (a : Network) (b : Totals) : Type 0 where
-    pub links : Links
-    pub carriages : ℕ
-    pub card : a ≡ network n f links
-    pub plan : b ≡ totals blocks carriages
-
-  open_of : (a : Network) (b : Totals) → site_on a b ≡ site n f blocks → Network-of a b
-  open_of (refused r) b e = absurd (let z : ◌≡◌ {A = ℕ} 0 1 = ap answered e in omega arith)
-  open_of (network m g links) (turned r) e = absurd (let z : ◌≡◌ {A = ℕ} 0 1 = ap answered e in omega arith)
-  open_of (network m g links) (totals k carriages) e = record { links = links; carriages = carriages; card = cc; plan = cc }
-
-pub site_open : (card plan : List ℕ) (n f blocks : ℕ) → site n f blocks ≡ site_of card plan → Opened n f plan blocks
-unfolding site_of
-site_open card plan n f blocks e =
-    let o = open_of n f blocks (read_card card) (check_plan card plan) (sym e) in
-    let p = card_proper card n f o.links o.card in
-    let (many, short, runs) = accepted_blocks card plan n f o.links o.card blocks o.carriages o.plan in
-    record { few = p.most; bound = p.bound; short = short; runs = runs }
-
-module _ (card plan : List ℕ) (before links : Links) (reading : Reading) (read : Reader.Answered card before reading links) where
-  pub site_card : (g : Refusal) → reading ≡ Reading.Refused g → closed (refusal_of g) ≡ site_of card plan
+module _ (card plan : List ℕ) where
+  pub site_card : (g : Refusal) → refused (refusal_of g) ≡ read_card card → closed (refusal_of g) ≡ site_of card plan
   unfolding site_of
-  site_card g is = let r = refused_of (read_card card) (refusal_of g) (sym read.reading ∙ ap reading_of is) in rw r refl
+  site_card g is = rw (← is) refl
 
-  module _ (n f : ℕ) (is : reading ≡ Reading.Network n f) (checked : Checked) (check : checked_of checked ≡ check_plan card plan) where
-    card_is : read_card card ≡ network n f links
-    card_is = network_is (read_card card) n f before links (sym read.reading ∙ ap reading_of is) read.links
-
-    pub site_plan : (g : Refusal) → checked ≡ Checked.Refused g → closed (refusal_of g) ≡ site_of card plan
+  module _ (n f : ℕ) (links : Links) (is : network n f links ≡ read_card card) where
+    pub site_plan : (g : Refusal) → turned (refusal_of g) ≡ check_plan card plan → closed (refusal_of g) ≡ site_of card plan
     unfolding site_of
-    site_plan g stop = rw (card_is, ← check, stop) refl
+    site_plan g stop = rw (← is, ← stop) refl
 
-    pub site_accepted : (blocks carriages : ℕ) → checked ≡ Checked.Accepted blocks carriages → site n f blocks ≡ site_of card plan
-    unfolding site_of
-    site_accepted blocks carriages ok = rw (card_is, ← check, ok) refl
+    module _ (blocks carriages : ℕ) (ok : totals blocks carriages ≡ check_plan card plan) where
+      pub site_found : site n f blocks ≡ site_of card plan
+      unfolding site_of
+      site_found = rw (← is, ← ok) refl
+
+      pub site_whole : Opened n f plan blocks
+      site_whole =
+          let p = card_proper card n f links (sym is) in
+          let (many, short, runs) = accepted_blocks card plan n f links (sym is) blocks carriages (sym ok) in
+          record { few = p.most; bound = p.bound; short = short; runs = runs }
 
 -- what a state that stands is
 
@@ -163,39 +133,6 @@ module _ (n f : ℕ) (plan : List ℕ) (i : ℕ) (s : State) where
       (λ e. rw e (ap (λ (x : ℕ). x ∷ []) (sent_end e)))
       (λ e. rw e (given_one (sent s.kind s.v s.t) i (carriages_of s.kind (block_of n f plan s.block))))
 
--- one byte more is filled
-filled : (x i : ℕ) (lent : List ℕ) → i < length lent → set (replicate i x ++ drop i lent) i x ≡ replicate (suc i) x ++ drop (suc i) lent
-filled x i [] h = absurd (omega arith)
-filled x zero (y ∷ lent) h = refl
-filled x (suc i) (y ∷ lent) h = ap (λ (l : List ℕ). x ∷ l) (filled x i lent (omega arith))
-
--- the first i of `count` bytes are filled, all of them where i is past the last
-pub record Filling (x count : ℕ) (lent : List ℕ) (i : ℕ) (now : List ℕ) : Type 0 where
-  pub most : i ≤ 56
-  pub long : length now ≡ length lent
-  pub same : now ≡ replicate (min i count) x ++ drop (min i count) lent
-
-pub filling_starts : (x count : ℕ) (lent : List ℕ) → Filling x count lent 0 lent
-filling_starts x count lent = let z : min 0 count ≡ 0 = omega arith in record { most = omega arith; long = refl; same = rw z refl }
-
-module _ (x count : ℕ) (lent : List ℕ) (i : ℕ) (now : List ℕ) (so : Filling x count lent i now) where
-  pub filling_goes : i < 56 → i < count → count ≤ length lent → Filling x count lent (i + 1) (set now i x)
-  filling_goes l h fits =
-      let a : min i count ≡ i = omega arith in
-      let b : min (i + 1) count ≡ suc i = omega arith in
-      let e = rw a at so.same in
-      record { most = omega arith; long = length-set now i x ∙ so.long; same = rw (b, e) (filled x i lent (omega arith)) }
-
-  pub filling_passes : i < 56 → count ≤ i → Filling x count lent (i + 1) now
-  filling_passes l h =
-      let a : min i count ≡ count = omega arith in
-      let b : min (i + 1) count ≡ count = omega arith in
-      let e = rw a at so.same in
-      record { most = omega arith; long = so.long; same = rw b e }
-
-  pub filling_ends : 56 ≤ i → count ≤ 56 → now ≡ replicate count x ++ drop count lent
-  filling_ends l h = let a : min i count ≡ count = omega arith in rw a at so.same
-
 -- the commit of a kind
 
 module _ (o : Opening) (part : List ℕ) (r : Ready o part) (kind i : ℕ) (arrived : List ℕ) (s : Own) (k : ℕ)
@@ -220,36 +157,21 @@ module _ (o : Opening) (part : List ℕ) (r : Ready o part) (kind i : ℕ) (arri
       commit_is ∙ (λ j. committed (en j) kind (is j) i arrived s) in
       a ∙ moved_next blocks (state_of before) new inside ∙ ap (next blocks (state_of before)) (e ∙ c)
 
--- the answers: refused, the state is handed back and nothing is written
-
-module _ (code : CodeState.State) (g : Refusal) where
-  stepped_held : (d : Stepped) → d ≡ Stepped.held (refusal_of g) → (r : CodeStepped.Stepped) → r ≡ record { outcome = Outcome.Refused g; state = code } → Stepping (state_of code) d r
-  stepped_held d e r q = rw (e, q) record { verdict = refl; state = refl }
-
-  asked_held : (d : Asked) → d ≡ Asked.held (refusal_of g) → (r : CodeAsked.Asked) → r ≡ record { outcome = Outcome.Refused g; state = code; values = 0 } → (lent : List ℕ)
-      → Asking (state_of code) d r lent lent
-  asked_held d e r q lent = rw (e, q) record { verdict = refl; state = refl; values = refl; bytes = refl }
-
 -- the grounds of a start
 
 module _ (n i x : ℕ) where
-  pub start_12 : 1 < x → (code : CodeState.State) → state_of code ≡ none → (r : CodeStepped.Stepped) → r ≡ record { outcome = Outcome.Refused (Refusal.Call CallGround.Inputs); state = code }
-      → Starting n i x r
+  pub start_12 : 1 < x → Starting n i x (Err (Refusal.Call CallGround.Inputs))
   unfolding start_on
-  start_12 h code z r q =
-      record { on = λ f blocks. let e : start_on (site n f blocks) i x ≡ Stepped.held (call 12) = simp (lt-ltb _ _ h) in rw z at (stepped_held code (Refusal.Call CallGround.Inputs) (start_on (site n f blocks) i x) e r q) }
+  start_12 h = record { on = λ f blocks. sym (simp (lt-ltb _ _ h)) }
 
   module _ (h : x ≤ 1) where
-    pub start_13 : n ≤ i → (code : CodeState.State) → state_of code ≡ none → (r : CodeStepped.Stepped) → r ≡ record { outcome = Outcome.Refused (Refusal.Call CallGround.FaultSet); state = code }
-        → Starting n i x r
+    pub start_13 : n ≤ i → Starting n i x (Err (Refusal.Call CallGround.FaultSet))
     unfolding start_on
-    start_13 l code z r q =
-        record { on = λ f blocks. let e : start_on (site n f blocks) i x ≡ Stepped.held (call 13) = simp (le-ltb _ _ h, le-ltb _ _ l) in rw z at (stepped_held code (Refusal.Call CallGround.FaultSet) (start_on (site n f blocks) i x) e r q) }
+    start_13 l = record { on = λ f blocks. sym (simp (le-ltb _ _ h, le-ltb _ _ l)) }
 
-    pub start_on_lem : i < n → (code : CodeState.State) → state_of code ≡ first x → Starting n i x (record { outcome = Outcome.Done; state = code })
+    pub start_first : i < n → (code : CodeState.State) → state_of code ≡ first x → Starting n i x (Ok code)
     unfolding start_on
-    start_on_lem l code z =
-        record { on = λ f blocks. let e : start_on (site n f blocks) i x ≡ Stepped.at (first x) = simp (le-ltb _ _ h, lt-ltb _ _ l) in rw e record { verdict = refl; state = z } }
+    start_first l code z = record { on = λ f blocks. ap Stepped.at z ∙ sym (simp (le-ltb _ _ h, lt-ltb _ _ l)) }
 
 -- the grounds of an ask
 
@@ -258,15 +180,13 @@ module _ (n blocks i : ℕ) (code : CodeState.State) (ok : Bool) (is : ok ≡ (l
     off : (ltb i n && stands blocks (state_of code)) ≡ false
     off = sym is ∙ no
 
-    pub ask_13 : (f : ℕ) (plan lent : List ℕ) (r : CodeAsked.Asked) → r ≡ record { outcome = Outcome.Refused (Refusal.Call CallGround.FaultSet); state = code; values = 0 }
-        → Asking (state_of code) (ask_on (site n f blocks) plan i (state_of code) lent) r lent lent
+    pub ask_13 : (f : ℕ) (plan lent : List ℕ) → Asking (state_of code) (ask_on (site n f blocks) plan i (state_of code) lent) (Err (Refusal.Call CallGround.FaultSet)) (state_of code) lent lent
     unfolding ask_on
-    ask_13 f plan lent r q = let a = off in asked_held code (Refusal.Call CallGround.FaultSet) (ask_on (site n f blocks) plan i (state_of code) lent) (rw a refl) r q lent
+    ask_13 f plan lent = let a = off in rw a record { verdict = refl; state = refl; values = refl; bytes = refl }
 
-    pub commit_13 : (f : ℕ) (plan arrived : List ℕ) (r : CodeStepped.Stepped) → r ≡ record { outcome = Outcome.Refused (Refusal.Call CallGround.FaultSet); state = code }
-        → Stepping (state_of code) (commit_on (site n f blocks) plan i (state_of code) arrived) r
+    pub commit_13 : (f : ℕ) (plan arrived : List ℕ) → Stepping (state_of code) (commit_on (site n f blocks) plan i (state_of code) arrived) (Err (Refusal.Call CallGround.FaultSet)) (state_of code)
     unfolding commit_on
-    commit_13 f plan arrived r q = let a = off in stepped_held code (Refusal.Call CallGround.FaultSet) (commit_on (site n f blocks) plan i (state_of code) arrived) (rw a refl) r q
+    commit_13 f plan arrived = let a = off in rw a record { verdict = refl; state = refl }
 
   module _ (yes' : ok ≡ true) where
     on : (ltb i n && stands blocks (state_of code)) ≡ true
@@ -276,32 +196,30 @@ module _ (n blocks i : ℕ) (code : CodeState.State) (ok : Bool) (is : ok ≡ (l
     stood = stood_by blocks (state_of code) (and_right (ltb i n) (stands blocks (state_of code)) on)
 
     module _ (f : ℕ) (plan lent : List ℕ) (count : ℕ) (many : count ≡ length (values_due n f plan i (state_of code))) where
-      pub ask_14 : length lent < count → (r : CodeAsked.Asked) → r ≡ record { outcome = Outcome.Refused (Refusal.Call CallGround.Buffer); state = code; values = 0 }
-          → Asking (state_of code) (ask_on (site n f blocks) plan i (state_of code) lent) r lent lent
+      pub ask_14 : length lent < count → Asking (state_of code) (ask_on (site n f blocks) plan i (state_of code) lent) (Err (Refusal.Call CallGround.Buffer)) (state_of code) lent lent
       unfolding ask_on
-      ask_14 h r q =
+      ask_14 h =
           let a = on in
           let b = lt-ltb (length lent) (length (values_due n f plan i (state_of code))) (rw many at h) in
-          asked_held code (Refusal.Call CallGround.Buffer) (ask_on (site n f blocks) plan i (state_of code) lent) (rw (a, b) refl) r q lent
+          rw (a, b) record { verdict = refl; state = refl; values = refl; bytes = refl }
 
       module _ (h : count ≤ length lent) where
         room : ltb (length lent) (length (values_due n f plan i (state_of code))) ≡ false
         room = le-ltb _ _ (rw many at h)
 
-        pub ask_16 : code.asked ≡ 1 → (r : CodeAsked.Asked) → r ≡ record { outcome = Outcome.Refused (Refusal.Call CallGround.OutOfTurn); state = code; values = 0 }
-            → Asking (state_of code) (ask_on (site n f blocks) plan i (state_of code) lent) r lent lent
+        pub ask_16 : code.asked ≡ 1 → Asking (state_of code) (ask_on (site n f blocks) plan i (state_of code) lent) (Err (Refusal.Call CallGround.OutOfTurn)) (state_of code) lent lent
         unfolding ask_on
-        ask_16 e r q =
+        ask_16 e =
             let a = on in
             let b = room in
             let c = eq-eqb code.asked 1 e in
-            asked_held code (Refusal.Call CallGround.OutOfTurn) (ask_on (site n f blocks) plan i (state_of code) lent) (rw (a, b, c) refl) r q lent
+            rw (a, b, c) record { verdict = refl; state = refl; values = refl; bytes = refl }
 
-        pub ask_on_lem : (code.asked ≡ 1 → ⊥) → (value : ℕ) → value ≡ value_of (state_of code) → (new : CodeState.State) → state_of new ≡ opened (state_of code)
+        pub ask_opens : (code.asked ≡ 1 → ⊥) → (value : ℕ) → value ≡ value_of (state_of code) → (new : CodeState.State) → state_of new ≡ opened (state_of code)
             → (after : List ℕ) → after ≡ replicate count value ++ drop count lent
-            → Asking (state_of code) (ask_on (site n f blocks) plan i (state_of code) lent) (record { outcome = Outcome.Done; state = new; values = count }) lent after
+            → Asking (state_of code) (ask_on (site n f blocks) plan i (state_of code) lent) (Ok count) (state_of new) lent after
         unfolding ask_on
-        ask_on_lem o value v new s after w =
+        ask_opens o value v new s after w =
             let a = on in
             let b = room in
             let c = ne_eqb code.asked 1 o in
@@ -312,61 +230,51 @@ module _ (n blocks i : ℕ) (code : CodeState.State) (ok : Bool) (is : ok ≡ (l
 
     -- the grounds of a commit
 
-    pub commit_16 : code.asked ≡ 0 → (f : ℕ) (plan arrived : List ℕ) (r : CodeStepped.Stepped) → r ≡ record { outcome = Outcome.Refused (Refusal.Call CallGround.OutOfTurn); state = code }
-        → Stepping (state_of code) (commit_on (site n f blocks) plan i (state_of code) arrived) r
+    pub commit_16 : code.asked ≡ 0 → (f : ℕ) (plan arrived : List ℕ) → Stepping (state_of code) (commit_on (site n f blocks) plan i (state_of code) arrived) (Err (Refusal.Call CallGround.OutOfTurn)) (state_of code)
     unfolding commit_on
-    commit_16 e f plan arrived r q =
+    commit_16 e f plan arrived =
         let a = on in
         let c = eq-eqb code.asked 0 e in
-        stepped_held code (Refusal.Call CallGround.OutOfTurn) (commit_on (site n f blocks) plan i (state_of code) arrived) (rw (a, c) refl) r q
+        rw (a, c) record { verdict = refl; state = refl }
 
-    pub commit_on_lem : (code.asked ≡ 0 → ⊥) → (f : ℕ) (plan arrived : List ℕ) (new : CodeState.State)
+    pub commit_moves : (code.asked ≡ 0 → ⊥) → (f : ℕ) (plan arrived : List ℕ) (new : CodeState.State)
         → state_of new ≡ next blocks (state_of code) (committed n code.kind (block_of n f plan code.block) i arrived (record { v = code.v; t = code.t }))
-        → Stepping (state_of code) (commit_on (site n f blocks) plan i (state_of code) arrived) (record { outcome = Outcome.Done; state = new })
+        → Stepping (state_of code) (commit_on (site n f blocks) plan i (state_of code) arrived) (Ok tt) (state_of new)
     unfolding commit_on
-    commit_on_lem o f plan arrived new s =
+    commit_moves o f plan arrived new s =
         let a = on in
         let c = ne_eqb code.asked 0 o in
-        let e : commit_on (site n f blocks) plan i (state_of code) arrived ≡ Stepped.at (next blocks (state_of code) (committed n code.kind (block_of n f plan code.block) i arrived (record { v = code.v; t = code.t }))) = rw (a, c) refl in
-        rw e record { verdict = refl; state = s }
+        rw (a, c) record { verdict = refl; state = s }
 
 -- the calls on bytes
 
-module _ (card plan : List ℕ) (checked : CodeSite.Site) (is : site_is checked ≡ site_of card plan) where
-  module _ (n f blocks : ℕ) (e : checked ≡ CodeSite.Site.Open n f blocks) where
-    opens : site n f blocks ≡ site_of card plan
-    opens = sym (ap site_is e) ∙ is
-
-    pub open_site : Opened n f plan blocks
-    open_site = site_open card plan n f blocks opens
-
-    pub open_start : (i x : ℕ) (r : CodeStepped.Stepped) → Starting n i x r → Stepping none (start_call card plan i x) r
+module _ (card plan : List ℕ) where
+  module _ (n f blocks : ℕ) (e : site n f blocks ≡ site_of card plan) where
+    pub open_start : (i x : ℕ) (r : Result CodeState.State Refusal) → Starting n i x r → started_of r ≡ start_call card plan i x
     unfolding start_call
-    open_start i x r s = rw (← opens) (s.on f blocks)
+    open_start i x r s = rw (← e) (s.on f blocks)
 
-    pub open_ask : (i : ℕ) (s : State) (lent : List ℕ) (r : CodeAsked.Asked) (after : List ℕ) → Asking s (ask_on (site n f blocks) plan i s lent) r lent after
-        → Asking s (ask_call card plan i s lent) r lent after
-    unfolding ask_call
-    open_ask i s lent r after a = rw (← opens) a
+    -- the plan as the code hands it on
+    module _ (rest : List ℕ) (p : rest ≡ plan) (s : State) (i : ℕ) where
+      pub open_ask : (lent : List ℕ) (r : Result ℕ Refusal) (new : State) (after : List ℕ) → Asking s (ask_on (site n f blocks) rest i s lent) r new lent after
+          → Asking s (ask_call card plan i s lent) r new lent after
+      unfolding ask_call
+      open_ask lent r new after a = rw (← e, ← p) a
 
-    pub open_commit : (i : ℕ) (s : State) (arrived : List ℕ) (r : CodeStepped.Stepped) → Stepping s (commit_on (site n f blocks) plan i s arrived) r
-        → Stepping s (commit_call card plan i s arrived) r
-    unfolding commit_call
-    open_commit i s arrived r a = rw (← opens) a
+      pub open_commit : (arrived : List ℕ) (r : Result (Unit {0}) Refusal) (new : State) → Stepping s (commit_on (site n f blocks) rest i s arrived) r new
+          → Stepping s (commit_call card plan i s arrived) r new
+      unfolding commit_call
+      open_commit arrived r new a = rw (← e, ← p) a
 
-  module _ (g : Refusal) (e : checked ≡ CodeSite.Site.Refused g) where
-    shuts : closed (refusal_of g) ≡ site_of card plan
-    shuts = sym (ap site_is e) ∙ is
-
-    pub closed_start : (i x : ℕ) (code : CodeState.State) → state_of code ≡ none → Stepping none (start_call card plan i x) (record { outcome = Outcome.Refused g; state = code })
+  module _ (g : Refusal) (e : closed (refusal_of g) ≡ site_of card plan) where
+    pub closed_start : (i x : ℕ) → Stepped.held (refusal_of g) ≡ start_call card plan i x
     unfolding start_call start_on
-    closed_start i x code z = rw (← shuts) record { verdict = refl; state = z }
+    closed_start i x = rw (← e) refl
 
-    module _ (code : CodeState.State) (i : ℕ) where
-      pub closed_ask : (lent : List ℕ) → Asking (state_of code) (ask_call card plan i (state_of code) lent) (record { outcome = Outcome.Refused g; state = code; values = 0 }) lent lent
-      unfolding ask_call ask_on
-      closed_ask lent = rw (← shuts) record { verdict = refl; state = refl; values = refl; bytes = refl }
+    pub closed_ask : (s : State) (i : ℕ) (lent : List ℕ) → Asking s (ask_call card plan i s lent) (Err g) s lent lent
+    unfolding ask_call ask_on
+    closed_ask s i lent = rw (← e) record { verdict = refl; state = refl; values = refl; bytes = refl }
 
-      pub closed_commit : (arrived : List ℕ) → Stepping (state_of code) (commit_call card plan i (state_of code) arrived) (record { outcome = Outcome.Refused g; state = code })
-      unfolding commit_call commit_on
-      closed_commit arrived = rw (← shuts) record { verdict = refl; state = refl }
+    pub closed_commit : (s : State) (i : ℕ) (arrived : List ℕ) → Stepping s (commit_call card plan i s arrived) (Err g) s
+    unfolding commit_call commit_on
+    closed_commit s i arrived = rw (← e) record { verdict = refl; state = refl }

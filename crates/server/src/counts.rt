@@ -2,10 +2,10 @@
 ghost use Rattle.std.specs.Prelude.{◌≡◌, cond, [], map, ◌+◌, ◌*◌, ◌≤◌, length};
 ghost use Rattle.rules.specs.Blocks.{routes_at, reports_at, carriage_of, report_carriages};
 ghost use Rattle.facts.specs.Lists.{Each};
-ghost use Rattle.carriage.specs.Openings.{Servers, ReportOf, Ready, block_at};
+ghost use Rattle.carriage.specs.Openings.{Servers, ReportOf, block_at};
 ghost use Rattle.part.specs.Own.{given, received, carriages_of};
 
-use carriage::opening::Opening;
+use carriage::block::Block;
 use carriage::walk;
 
 // 1 where the test holds, else 0, so that a count has no branch.
@@ -80,40 +80,42 @@ fn reports_to(block: &[u8], place: usize, count: usize, server: u8, each: usize)
 }
 
 // The carriages of this kind whose source is the server.
-pub(crate) fn sent(opening: Opening, block: &[u8], kind: u64, server: u8) -> usize
-    requires { Ready opening block.now }
-    ensures { (result ≡ length (given 0 server (carriages_of kind (block_at opening block.now)))) × (result ≤ 56) }
+pub(crate) fn sent(block: &Block, kind: u64, server: u8) -> usize
+    ensures { (result ≡ length (given 0 server (carriages_of kind (block_at block.now.opening block.now.bytes.now)))) × (result ≤ 56) }
 {
+    let opening = block.opening;
+    let bytes = block.bytes;
     if kind == 0x11 {
-        return routes_from(block, 4, opening.inward, server);
+        return routes_from(bytes, 4, opening.inward, server);
     }
     let two = opening.inward + opening.among;
     if kind == 0x12 {
-        return routes_from(block, 4 + 9 * opening.inward, opening.among, server);
+        return routes_from(bytes, 4 + 9 * opening.inward, opening.among, server);
     }
     if kind == 0x13 {
-        return routes_from(block, 4 + 9 * two, opening.outward, server);
+        return routes_from(bytes, 4 + 9 * two, opening.outward, server);
     }
     let three = two + opening.outward;
-    reports_from(block, 4 + 9 * three, opening.reports, server)
+    reports_from(bytes, 4 + 9 * three, opening.reports, server)
 }
 
 // The carriages of this kind whose receiver is the server.
-pub(crate) fn due(opening: Opening, block: &[u8], kind: u64, server: u8) -> usize
-    requires { Ready opening block.now }
-    ensures { result ≡ length (received [] 0 server (carriages_of kind (block_at opening block.now))) }
+pub(crate) fn due(block: &Block, kind: u64, server: u8) -> usize
+    ensures { result ≡ length (received [] 0 server (carriages_of kind (block_at block.now.opening block.now.bytes.now))) }
 {
+    let opening = block.opening;
+    let bytes = block.bytes;
     if kind == 0x11 {
-        return routes_to(block, 4, opening.inward, server);
+        return routes_to(bytes, 4, opening.inward, server);
     }
     let two = opening.inward + opening.among;
     if kind == 0x12 {
-        return routes_to(block, 4 + 9 * opening.inward, opening.among, server);
+        return routes_to(bytes, 4 + 9 * opening.inward, opening.among, server);
     }
     if kind == 0x13 {
-        return routes_to(block, 4 + 9 * two, opening.outward, server);
+        return routes_to(bytes, 4 + 9 * two, opening.outward, server);
     }
     let three = two + opening.outward;
     let each = (opening.f as usize) + 1;
-    reports_to(block, 4 + 9 * three, opening.reports, server, each)
+    reports_to(bytes, 4 + 9 * three, opening.reports, server, each)
 }

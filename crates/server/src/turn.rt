@@ -1,97 +1,56 @@
 // The three calls of a server. Card and plan are checked in each, then the call is.
-ghost use Rattle.std.specs.Prelude.{◌≡◌, ◌++◌, ◌+◌, ◌≤◌, ◌<◌, length, drop, replicate};
+ghost use Rattle.std.specs.Prelude.{◌≡◌, ◌++◌, ◌≤◌, ◌<◌, length, drop, replicate, IfOk};
 ghost use Rattle.part.specs.Own.{committed};
 ghost use Rattle.part.specs.State.{next};
 ghost use Rattle.part.specs.Calls.{site, site_of, block_of, values_due, start_call, ask_on, ask_call, commit_on, commit_call};
+ghost use Rattle.carriage.specs.Openings.{block_at};
 ghost use Rattle.own.specs.States.{state_of};
-ghost use Rattle.server.specs.Places.{Opened, Here};
-ghost use Rattle.server.specs.Answers.{site_is, value_of, none, Stepping, Starting, Asking};
+ghost use Rattle.server.specs.Answers.{site_is, value_of, refused_by, started_of, Stepping, Starting, Asking};
 
 use crate::counts;
-use carriage::opening;
-use network::card;
-use network::card::Reading;
+use carriage::block::Block;
+use carriage::blocks::Blocks;
+use network::Network;
 use own::state::{Own, State};
 use own::{state, step};
 use plan::check;
-use plan::check::Checked;
 use refusal::{CallGround, Refusal};
 
-#[derive(Drop)]
-pub enum Outcome {
-    // The call is answered.
-    Done,
-    // The card, the plan or the call is refused; the state is as it was.
-    Refused(Refusal),
-}
-
-// What start and commit answer.
-#[derive(Drop)]
-pub struct Stepped {
-    pub outcome: Outcome,
-    pub state: State,
-}
-
-// What ask answers.
-#[derive(Drop)]
-pub struct Asked {
-    pub outcome: Outcome,
-    pub state: State,
-    // How many values are in the lent buffer.
-    pub values: usize,
-}
-
-// Card and plan, checked.
-#[derive(Drop)]
-pub enum Site {
-    Open { n: u8, f: u8, blocks: usize },
-    Refused(Refusal),
-}
-
-fn checked_site(card: &[u8], plan: &[u8]) -> Site
-    ensures { site_is result ≡ site_of card.now plan.now }
+// The blocks of the plan, where card and plan are both accepted.
+fn checked<'a>(card: &[u8], plan: &'a [u8]) -> Result<Blocks<'a>, Refusal>
+    ensures site { site_is result ≡ site_of card.now plan.now }
+    ensures whole { IfOk result (λ w. w.rest.now ≡ plan.now) }
 {
-    let mut links = [[false; 8]; 8];
-    let reading = card::read_card(card, &mut links);
-    match reading {
-        Reading::Refused(r) => Site::Refused(r),
-        Reading::Network { n, f } => {
-            let checked = check::check_plan(card, plan);
-            match checked {
-                Checked::Refused(r) => Site::Refused(r),
-                Checked::Accepted { blocks, carriages } => Site::Open { n, f, blocks },
-            }
-        }
-    }
+    let network = Network::read(card)?;
+    let totals = check::check_plan(card, plan)?;
+    Ok(Blocks {
+        n: network.n,
+        f: network.f,
+        rest: plan,
+        left: totals.blocks,
+    })
 }
 
-// Where block j starts.
-fn block_at(n: u8, f: u8, plan: &[u8], j: usize) -> usize
-    requires { Opened n f plan.now (j + 1) }
-    ensures { Here n f plan.now j result }
+// Block j of the plan.
+fn block_at<'a>(plan: &Blocks<'a>, j: usize) -> Block<'a>
+    requires { j < plan.now.left }
+    ensures servers { result.opening.n ≡ plan.now.n }
+    ensures block { block_at result.opening result.bytes.now ≡ block_of plan.now.n plan.now.f plan.now.rest.now j }
 {
-    let sizes = sets::sizes();
-    let mut at: usize = 0;
-    for k in 0..j {
-        let opening = opening::read_opening(n, f, &plan[at..], &sizes);
-        at = at + opening.bytes;
-    }
-    at
+    let mut blocks = *plan;
+    blocks.nth(j).unwrap()
 }
 
 // How many values the server sends: at the end one, the decided bit.
-fn values_due(n: u8, f: u8, plan: &[u8], server: u8, state: State) -> usize
-    requires { (state.kind ≡ 0x15 → ⊥) → Opened n f plan.now (state.block + 1) }
-    ensures { (result ≡ length (values_due n f plan.now server (state_of state))) × (result ≤ 56) }
+fn values_due(plan: &Blocks, server: u8, state: State) -> usize
+    requires { (state.kind ≡ 0x15 → ⊥) → state.block < plan.now.left }
+    ensures { (result ≡ length (values_due plan.now.n plan.now.f plan.now.rest.now server (state_of state))) × (result ≤ 56) }
 {
     if state.kind == 0x15 {
         return 1;
     }
-    let at = block_at(n, f, plan, state.block as usize);
-    let part = &plan[at..];
-    let sizes = sets::sizes();
-    let opening = opening::read_opening(n, f, part, &sizes);
-    counts::sent(opening, part, state.kind, server)
+    let block = block_at(plan, state.block as usize);
+    counts::sent(&block, state.kind, server)
 }
 
 // What the server sends: t in 12 and 13; v in 11 and 14 and at the end.
@@ -108,190 +67,119 @@ fn value(state: State) -> u8
     state.v as u8
 }
 
-// The value, so many times; later bytes are left as they are. No kind of a block has more than 56
-// carriages. The loop goes that far since one of `count` turns would become a call of the C
-// library's memset, and this library calls nothing.
+// The value, so many times; later bytes are left as they are.
 fn fill(lent: &mut [u8], count: usize, value: u8)
-    requires { (count ≤ length lent.old) × (count ≤ 56) }
+    requires { count ≤ length lent.old }
     ensures { lent.new ≡ replicate count value ++ drop count lent.old }
 {
-    for i in 0..56usize {
-        if i < count {
-            lent[i] = value;
-        }
-    }
-}
-
-fn ask_refused(ground: CallGround, state: State) -> Asked
-    ensures { result ≡ record { outcome = Outcome.Refused (Refusal.Call ground); state = state; values = 0 } }
-{
-    Asked {
-        outcome: Outcome::Refused(Refusal::Call(ground)),
-        state,
-        values: 0,
-    }
+    lent[..count].fill(value);
 }
 
 // The grounds of an ask, and the values where there is none.
 fn ask_on(
-    n: u8,
-    f: u8,
-    blocks: usize,
-    plan: &[u8],
+    plan: &Blocks,
     server: u8,
-    state: State,
+    state: &mut State,
     lent: &mut [u8],
-) -> Asked
-    requires { Opened n f plan.now blocks }
-    ensures { Asking (state_of state) (ask_on (site n f blocks) plan.now server (state_of state) lent.old) result lent.old lent.new }
+) -> Result<usize, CallGround>
+    ensures { Asking (state_of state.old) (ask_on (site plan.now.n plan.now.f plan.now.left) plan.now.rest.now server (state_of state.old) lent.old) (refused_by result) (state_of state.new) lent.old lent.new }
 {
-    if state::stands(n, blocks, server, state) {
-        let count = values_due(n, f, plan, server, state);
+    let before = *state;
+    if state::stands(plan.n, plan.left, server, before) {
+        let count = values_due(plan, server, before);
         if lent.len() < count {
-            return ask_refused(CallGround::Buffer, state);
+            return Err(CallGround::Buffer);
         }
-        if state.asked == 1 {
-            return ask_refused(CallGround::OutOfTurn, state);
+        if before.asked == 1 {
+            return Err(CallGround::OutOfTurn);
         }
-        fill(&mut *lent, count, value(state));
-        return Asked {
-            outcome: Outcome::Done,
-            state: state::opened(state),
-            values: count,
-        };
+        fill(&mut *lent, count, value(before));
+        *state = state::opened(before);
+        return Ok(count);
     }
-    ask_refused(CallGround::FaultSet, state)
-}
-
-fn refused(ground: CallGround, state: State) -> Stepped
-    ensures { result ≡ record { outcome = Outcome.Refused (Refusal.Call ground); state = state } }
-{
-    Stepped {
-        outcome: Outcome::Refused(Refusal::Call(ground)),
-        state,
-    }
+    Err(CallGround::FaultSet)
 }
 
 // The state after the commit of its kind.
-fn moved(
-    n: u8,
-    f: u8,
-    blocks: usize,
-    plan: &[u8],
-    server: u8,
-    state: State,
-    arrived: &[u8],
-) -> State
-    requires { Opened n f plan.now (state.block + 1) × (state.block < blocks) × (state.v < 2) × (state.t < 3) }
-    ensures { state_of result ≡ next blocks (state_of state) (committed n state.kind (block_of n f plan.now state.block) server arrived.now (record { v = state.v; t = state.t })) }
+fn moved(plan: &Blocks, server: u8, state: State, arrived: &[u8]) -> State
+    requires { (state.block < plan.now.left) × (state.v < 2) × (state.t < 3) }
+    ensures { state_of result ≡ next plan.now.left (state_of state) (committed plan.now.n state.kind (block_of plan.now.n plan.now.f plan.now.rest.now state.block) server arrived.now (record { v = state.v; t = state.t })) }
 {
-    let at = block_at(n, f, plan, state.block as usize);
-    let part = &plan[at..];
-    let sizes = sets::sizes();
-    let opening = opening::read_opening(n, f, part, &sizes);
-    let due = counts::due(opening, part, state.kind, server);
+    let block = block_at(plan, state.block as usize);
+    let due = counts::due(&block, state.kind, server);
     let before = Own {
         v: state.v as u8,
         t: state.t as u8,
     };
-    let after = step::committed(opening, state.kind, server, arrived, due, before);
-    state::next(blocks, state, after)
+    let after = step::committed(block.opening, state.kind, server, arrived, due, before);
+    state::next(plan.left, state, after)
 }
 
 // The grounds of a commit, and the steps of its kind where there is none.
-fn commit_on(
-    n: u8,
-    f: u8,
-    blocks: usize,
-    plan: &[u8],
-    server: u8,
-    state: State,
-    arrived: &[u8],
-) -> Stepped
-    requires { Opened n f plan.now blocks }
-    ensures { Stepping (state_of state) (commit_on (site n f blocks) plan.now server (state_of state) arrived.now) result }
+fn commit_on(plan: &Blocks, server: u8, state: &mut State, arrived: &[u8]) -> Result<(), CallGround>
+    ensures { Stepping (state_of state.old) (commit_on (site plan.now.n plan.now.f plan.now.left) plan.now.rest.now server (state_of state.old) arrived.now) (refused_by result) (state_of state.new) }
 {
-    if state::stands(n, blocks, server, state) {
-        if state.asked == 0 {
-            return refused(CallGround::OutOfTurn, state);
+    let before = *state;
+    if state::stands(plan.n, plan.left, server, before) {
+        if before.asked == 0 {
+            return Err(CallGround::OutOfTurn);
         }
-        let after = moved(n, f, blocks, plan, server, state, arrived);
-        return Stepped {
-            outcome: Outcome::Done,
-            state: after,
-        };
+        *state = moved(plan, server, before, arrived);
+        return Ok(());
     }
-    refused(CallGround::FaultSet, state)
-}
-
-// The state of no server: what a refused start leaves.
-fn none() -> State
-    ensures { state_of result ≡ none }
-{
-    State {
-        block: 0,
-        kind: 0,
-        v: 0,
-        t: 0,
-        asked: 0,
-    }
+    Err(CallGround::FaultSet)
 }
 
 // The grounds of a start, and the first state where there is none.
-fn start_on(n: u8, server: u8, input: u8) -> Stepped
-    ensures { Starting n server input result }
+fn start_on(n: u8, server: u8, input: u8) -> Result<State, CallGround>
+    ensures { Starting n server input (refused_by result) }
 {
     if 1 < input {
-        return refused(CallGround::Inputs, none());
+        return Err(CallGround::Inputs);
     }
     if server < n {
-        return Stepped {
-            outcome: Outcome::Done,
-            state: state::first(input),
-        };
+        return Ok(state::first(input));
     }
-    refused(CallGround::FaultSet, none())
+    Err(CallGround::FaultSet)
 }
 
 // Where a server starts, with its own input.
-pub fn start(card: &[u8], plan: &[u8], server: u8, input: u8) -> Stepped
-    ensures { Stepping none (start_call card.now plan.now server input) result }
+pub fn start(card: &[u8], plan: &[u8], server: u8, input: u8) -> Result<State, Refusal>
+    ensures { started_of result ≡ start_call card.now plan.now server input }
 {
-    let checked = checked_site(card, plan);
-    match checked {
-        Site::Refused(r) => Stepped {
-            outcome: Outcome::Refused(r),
-            state: none(),
-        },
-        Site::Open { n, f, blocks } => start_on(n, server, input),
-    }
+    let blocks = checked(card, plan)?;
+    let state = start_on(blocks.n, server, input)?;
+    Ok(state)
 }
 
-// What the server sends as source, into the lent buffer, and its state with the ask open.
-pub fn ask(card: &[u8], plan: &[u8], server: u8, state: State, lent: &mut [u8]) -> Asked
-    ensures { Asking (state_of state) (ask_call card.now plan.now server (state_of state) lent.old) result lent.old lent.new }
+// What the server sends as source, into the lent buffer: how many values. The ask is open in the
+// state then; refused, the state and the buffer are as they were.
+pub fn ask(
+    card: &[u8],
+    plan: &[u8],
+    server: u8,
+    state: &mut State,
+    lent: &mut [u8],
+) -> Result<usize, Refusal>
+    ensures { Asking (state_of state.old) (ask_call card.now plan.now server (state_of state.old) lent.old) result (state_of state.new) lent.old lent.new }
 {
-    let checked = checked_site(card, plan);
-    match checked {
-        Site::Refused(r) => Asked {
-            outcome: Outcome::Refused(r),
-            state,
-            values: 0,
-        },
-        Site::Open { n, f, blocks } => ask_on(n, f, blocks, plan, server, state, &mut *lent),
-    }
+    let blocks = checked(card, plan)?;
+    let count = ask_on(&blocks, server, state, lent)?;
+    Ok(count)
 }
 
-// What arrived for the server as receiver is taken in, and the state moves on.
-pub fn commit(card: &[u8], plan: &[u8], server: u8, state: State, arrived: &[u8]) -> Stepped
-    ensures { Stepping (state_of state) (commit_call card.now plan.now server (state_of state) arrived.now) result }
+// What arrived for the server as receiver is taken in, and the state moves on; refused, it is as it
+// was.
+pub fn commit(
+    card: &[u8],
+    plan: &[u8],
+    server: u8,
+    state: &mut State,
+    arrived: &[u8],
+) -> Result<(), Refusal>
+    ensures { Stepping (state_of state.old) (commit_call card.now plan.now server (state_of state.old) arrived.now) result (state_of state.new) }
 {
-    let checked = checked_site(card, plan);
-    match checked {
-        Site::Refused(r) => Stepped {
-            outcome: Outcome::Refused(r),
-            state,
-        },
-        Site::Open { n, f, blocks } => commit_on(n, f, blocks, plan, server, state, arrived),
-    }
+    let blocks = checked(card, plan)?;
+    commit_on(&blocks, server, state, arrived)?;
+    Ok(())
 }

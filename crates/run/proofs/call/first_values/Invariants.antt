@@ -1,5 +1,4 @@
--- `run::call::first_values` meets its contract. The invariant of its loop: the set has the servers below i with input 1 (`Lent`). The measure is how
--- many inputs are left. Assumes nothing.
+-- `run::call::first_values` meets its contract. The invariant of its loop: the set has the servers below i with input 1 (`Lent`). Assumes nothing.
 use Rattle.run.proofs.Lent.{Taking}
 use Rattle.run.proofs.call.first_values.Given as goal
 

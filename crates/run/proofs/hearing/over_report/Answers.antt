@@ -1,34 +1,24 @@
+use Prim.Native.Nat.{◌+◌, ◌<◌}
 use borrow.Author.Rules.{rules}
-use Rattle.plan.proofs.Lowests.{Taken, take_lowest, taken_less}
-use Rattle.run.proofs.Reported.{telling_starts, telling_fits, telling_goes, telling_done}
+use Rattle.run.proofs.Reported.{telling_starts, telling_eight, telling_fits, telling_goes, telling_done}
 use Rattle.run.proofs.hearing.over_report.Goals as goal
 
-pub loop-left-init : goal.loop-left-init
-loop-left-init c = search (rules, telling_starts)
+pub loop-m-init : goal.loop-m-init
+loop-m-init c = rw (c.into_iter-m-iterator.ensures.into_iter_gives, c.ascending-m-items.ensures) (telling_starts _ _ _ _ _ _ _)
 
 pub reported-arrival-requires : goal.reported-arrival-requires
-reported-arrival-requires c =
-    let taken_out : (Taken c.loop-left.left c.lowest-m.result c.minus-others.result) = take_lowest c.loop-left.invariant.byte c.loop-left-test.true c.lowest-m.ensures c.single.ensures c.minus-others.ensures in
-    taken_out.server
+reported-arrival-requires c = telling_eight _ _ _ c.in-Some.ensures.steps
 
 -- the numbers stay below the first and eight
 pub overflow_add-number : goal.overflow_add-number
 overflow_add-number c =
-    let taken_out : (Taken c.loop-left.left c.lowest-m.result c.minus-others.result) = take_lowest c.loop-left.invariant.byte c.loop-left-test.true c.lowest-m.ensures c.single.ensures c.minus-others.ensures in
-    search (telling_fits, taken_out)
+    let fits : (c.loop-m.number + 1 < 18446744073709551616) = telling_fits _ _ _ _ _ _ _ _ _ _ c.loop-m.invariant _ _ c.in-Some.ensures.steps c.requires.0 in
+    search rules
 
--- one reporter less is left
-pub loop-left-smaller : goal.loop-left-smaller
-loop-left-smaller c =
-    let taken_out : (Taken c.loop-left.left c.lowest-m.result c.minus-others.result) = take_lowest c.loop-left.invariant.byte c.loop-left-test.true c.lowest-m.ensures c.single.ensures c.minus-others.ensures in
-    taken_less taken_out
-
--- its report is told
-pub loop-left-preserved : goal.loop-left-preserved
-loop-left-preserved c =
-    let taken_out : (Taken c.loop-left.left c.lowest-m.result c.minus-others.result) = take_lowest c.loop-left.invariant.byte c.loop-left-test.true c.lowest-m.ensures c.single.ensures c.minus-others.ensures in
-    search (telling_goes, taken_out)
+-- the report of the lowest of those left is told
+pub loop-m-preserved : goal.loop-m-preserved
+loop-m-preserved c = telling_goes _ _ _ _ _ _ _ _ _ _ c.loop-m.invariant _ _ c.in-Some.ensures.steps _ c.reported-arrival.ensures _ c.spoken-next.ensures
 
 -- no reporter is left
 pub returns : goal.returns
-returns c = telling_done _ _ _ _ _ _ _ _ _ _ c.loop-left.invariant c.loop-left-test.false
+returns c = telling_done _ _ _ _ _ _ _ _ _ _ c.loop-m.invariant c.in-None.ensures.steps.0

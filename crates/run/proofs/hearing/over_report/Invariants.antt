@@ -1,15 +1,10 @@
 -- `run::hearing::over_report` meets its contract. The invariant of its loop, `Telling`: with what is left of the reporters, what is held becomes that of
--- the whole. The measure is how many reporters are left. What a turn needs is known once the lowest of them is taken out (`taken_out`). Assumes nothing.
-use lib.ListN.{length}
-use Rattle.sets.specs.Members.{members}
+-- the whole. Assumes nothing.
 use Rattle.steps.specs.Steps.{held}
 use Rattle.run.specs.Speaking.{bits_of}
 use Rattle.run.proofs.Reported.{Telling}
 use Rattle.run.proofs.hearing.over_report.Given as goal
 
-abbrev pub invariant-loop-left : goal.invariant-loop-left
-invariant-loop-left l =
-    Telling l.faulty l.table l.first (held (bits_of l.ones)) (record { zero = l.initial.zero; one = l.initial.one }) l.receiver l.reporters (record { zero = l.zero; one = l.one }) l.number l.left
-
-abbrev pub decreases-loop-left : goal.decreases-loop-left
-decreases-loop-left l = length (members l.left)
+abbrev pub invariant-loop-m : goal.invariant-loop-m
+invariant-loop-m l =
+    Telling l.faulty l.table l.first (held (bits_of l.ones)) l.fn.before l.receiver l.reporters l.against l.number l.m-iterator.left

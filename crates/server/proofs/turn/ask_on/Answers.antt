@@ -1,27 +1,26 @@
 -- `server::turn::ask_on` meets its contract. Each answer is one lemma of `Turning`, whose premises `search` finds. Assumes nothing.
-use Rattle.server.proofs.Turning.{Stood, stood, ask_13, ask_14, ask_16, ask_on_lem}
 use Rattle.own.specs.States.{state_of}
-use Rattle.server.proofs.Ways.{opened_to}
+use Rattle.server.proofs.Turning.{Stood, stood, ask_13, ask_14, ask_16, ask_opens}
 use Rattle.server.proofs.turn.ask_on.Goals as goal
 
 pub values_due-count-requires : goal.values_due-count-requires
 values_due-count-requires c =
-    let standing : (let a = c.args in Stood a.blocks (state_of a.state)) = search stood in
-    λ o. opened_to _ _ _ _ _ c.requires (standing.inside o)
+    let standing : (let a = c.args in Stood a.plan.now.left (state_of a.state.now)) = search stood in
+    standing.inside
 
 pub returns-then-lent-count : goal.returns-then-lent-count
 returns-then-lent-count c = search ask_14
 
-pub returns-then-state-eq1 : goal.returns-then-state-eq1
-returns-then-state-eq1 c = search ask_16
+pub returns-then-before-eq1 : goal.returns-then-before-eq1
+returns-then-before-eq1 c = search ask_16
 
 pub value-requires : goal.value-requires
 value-requires c =
-    let standing : (let a = c.args in Stood a.blocks (state_of a.state)) = search stood in
+    let standing : (let a = c.args in Stood a.plan.now.left (state_of a.state.now)) = search stood in
     let k = standing in (k.v_small, k.t_small)
 
 pub returns-then-stands : goal.returns-then-stands
-returns-then-stands c = search ask_on_lem
+returns-then-stands c = search ask_opens
 
 pub returns : goal.returns
 returns c = search ask_13

@@ -1,16 +1,12 @@
-use Prim.Native.Nat.{◌+◌, ◌≤◌}
-use lib.ListN.{length}
-use borrow.Author.Rules.{rules}
-use Rattle.server.proofs.Ways.{way_fits, way_goes, way_ends}
+-- `server::turn::block_at` meets its contract: the blocks before j are passed over, and j is below how many there are. Assumes nothing.
+use Rattle.server.proofs.Ways.{way_some, way_block}
 use Rattle.server.proofs.turn.block_at.Goals as goal
 
-pub overflow_add-at : goal.overflow_add-at
-overflow_add-at c =
-    let fits : (c.loop-k.at + c.read_opening-opening.result.bytes ≤ length c.args.plan.now) = search way_fits in
-    let r = fits in search rules
-
-pub loop-k-preserved : goal.loop-k-preserved
-loop-k-preserved c = search way_goes
+pub unwrap-requires : goal.unwrap-requires
+unwrap-requires c = way_some c.args.plan.now _ c.requires _ _ c.nth.ensures.ran
 
 pub returns : goal.returns
-returns c = search way_ends
+returns c =
+    let w = rw c.unwrap.ensures at c.nth.ensures.ran in
+    let b = way_block c.args.plan.now _ c.requires _ _ w in
+    record { servers = b.0; block = b.1 }

@@ -7,11 +7,11 @@ use Rattle.run.proofs.values.Values.step2.Goals as goal
 
 pub over_routes-inward-requires : goal.over_routes-inward-requires
 over_routes-inward-requires c =
-    let r = c.requires.0 in
+    let r = c.args.block.now.ready in
     let fits = block_fits _ _ r in
     (omega arith, inward_servers _ _ r, omega arith)
 
 pub returns : goal.returns
 returns c =
-    let p = c.requires in
-    (c.gathered-after.ensures.0, step2_is _ _ p.0 _ _ _ _ _ _ (speaks_unpacked _ _ c.over_routes-inward.ensures _ c.unpacked-against.ensures.0 c.unpacked-against.ensures.1) _ c.minus.ensures _ c.gathered-after.ensures.1)
+    let r = c.args.block.now.ready in
+    (c.gathered-after.ensures.0, step2_is _ _ r _ _ _ _ _ _ (speaks_unpacked _ _ c.over_routes-inward.ensures _ c.unpacked-against.ensures.0 c.unpacked-against.ensures.1) _ c.minus.ensures _ c.gathered-after.ensures.1)

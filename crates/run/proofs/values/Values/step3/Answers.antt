@@ -8,11 +8,11 @@ use Rattle.run.proofs.values.Values.step3.Goals as goal
 
 pub over_routes-among-requires : goal.over_routes-among-requires
 over_routes-among-requires c =
-    let r = c.requires.0 in
+    let r = c.args.block.now.ready in
     let fits = block_fits _ _ r in
     (omega arith, among_servers _ _ r, omega arith)
 
 pub returns : goal.returns
 returns c =
-    let p = c.requires in
-    (refl, step3_is _ _ p.0 _ _ _ _ _ _ (speaks_unpacked _ _ c.over_routes-among.ensures _ c.unpacked-against.ensures.0 c.unpacked-against.ensures.1) _ c.replaced-differs.ensures _ c.meet.ensures _ c.minus-sure.ensures)
+    let r = c.args.block.now.ready in
+    (refl, step3_is _ _ r _ _ _ _ _ _ (speaks_unpacked _ _ c.over_routes-among.ensures _ c.unpacked-against.ensures.0 c.unpacked-against.ensures.1) _ c.replaced-differs.ensures _ c.meet.ensures _ c.minus-sure.ensures)

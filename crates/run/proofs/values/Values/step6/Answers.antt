@@ -7,14 +7,14 @@ use Rattle.run.proofs.values.Values.step6.Goals as goal
 
 pub over_reports-against-requires : goal.over_reports-against-requires
 over_reports-against-requires c =
-    let p = c.requires in
-    let fits = block_fits _ _ p.0 in
-    let few = p.0.bound in
-    let short = p.0.short in
-    let most = reports_few _ _ p.0 in
-    (omega arith, reports_servers _ _ p.0, omega arith, omega arith)
+    let r = c.args.block.now.ready in
+    let fits = block_fits _ _ r in
+    let few = r.bound in
+    let short = r.short in
+    let most = reports_few _ _ r in
+    (omega arith, reports_servers _ _ r, omega arith, omega arith)
 
 pub returns : goal.returns
 returns c =
-    let p = c.requires in
-    (step6_is _ _ p.0 _ _ _ _ _ c.over_reports-against.ensures _ c.alike.ensures _ c.meet-told.ensures _ c.replaced-v.ensures, refl, refl)
+    let r = c.args.block.now.ready in
+    (step6_is _ _ r _ _ _ _ _ c.over_reports-against.ensures _ c.alike.ensures _ c.meet-told.ensures _ c.replaced-v.ensures, refl, refl)
