@@ -22,8 +22,7 @@ use Rattle.rules.specs.Blocks.{operand, Route, encode_routes, encode_reports, en
 use Rattle.rules.specs.Rules.{sources_for, pairs_of}
 use Rattle.rules.proofs.Groups.{encode_append}
 use Rattle.flow.specs.declared.Flow.{Flow}
-use Rattle.flow.specs.declared.Sought.{Sought}
-use Rattle.flow.specs.Search.{lowest_of, flow_by}
+use Rattle.flow.specs.Search.{Sought, lowest_of, flow_by}
 use Rattle.flow.specs.Routes.{trail, routes_of}
 use Rattle.blocks.specs.Written.{routes_by, fans_by, mesh_by, report_by, block_by, Put, BlockPut}
 use Rattle.blocks.proofs.Putting.{joined, put_join}

@@ -28,8 +28,7 @@ use Rattle.network.proofs.Heads.{network_is, refused_of}
 use Rattle.network.proofs.Networks.{card_proper}
 use Rattle.rules.specs.Blocks.{Route}
 use Rattle.flow.specs.declared.Flow.{Flow}
-use Rattle.flow.specs.declared.Sought.{Sought}
-use Rattle.flow.specs.Search.{flow_to}
+use Rattle.flow.specs.Search.{Sought, flow_to}
 use Rattle.flow.specs.Routes.{Separated, routes, cut, routes_of, cut_of, separate_routes}
 use Rattle.flow.specs.Theorems.{Found, CutOff, sought}
 use Rattle.flow.proofs.Finding.{finds}

@@ -19,8 +19,7 @@ use Rattle.network.specs.Rows.{rows_of}
 use Rattle.network.specs.Proper.{Proper}
 use Rattle.network.proofs.LinkRows.{rows_linked}
 use Rattle.split.specs.Sources.{sources_to, SourceRows}
-use Rattle.flow.specs.declared.Sought.{Sought}
-use Rattle.flow.specs.Search.{linking, flow_by, flow_to}
+use Rattle.flow.specs.Search.{Sought, linking, flow_by, flow_to}
 use Rattle.routes.specs.Routing.{call_fits}
 
 servers_are : (n all : ℕ) → n ≤ 8 → all ≡ full (min n 8) → all ≡ full n
