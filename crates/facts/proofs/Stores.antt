@@ -1,6 +1,7 @@
 -- Bytes laid over a buffer.
 --     laid_append    two parts, one after the other, are their join
 --     length_laid    the buffer keeps its length
+--     laid_after     what stands before the place is untouched
 --     laid_whole     a buffer that is long enough holds the whole, and its later bytes are untouched
 -- Assumes nothing.
 use mathlib.Core.Path.{◌≡◌, refl, ap, ◌∙◌}
@@ -21,8 +22,8 @@ unfolding laid
 length_laid at [] l = refl
 length_laid at (b ∷ bs) l = length_laid (suc at) bs (set l at b) ∙ length-set l at b
 
--- what stands before the place is untouched
-laid_after : (at : ℕ) (text : List ℕ) (x : ℕ) (l : List ℕ) → laid (suc at) text (x ∷ l) ≡ x ∷ laid at text l
+
+pub laid_after : (at : ℕ) (text : List ℕ) (x : ℕ) (l : List ℕ) → laid (suc at) text (x ∷ l) ≡ x ∷ laid at text l
 unfolding laid
 laid_after at [] x l = refl
 laid_after at (b ∷ bs) x l = laid_after (suc at) bs x (set l at b)
