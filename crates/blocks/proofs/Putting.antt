@@ -3,7 +3,7 @@
 --     put_join                          two puts, one after the other, put the join of their texts
 --     put_most, put_long                a greater bound; a put keeps the buffer's length
 --     placed-..                         the same, at a place
---     mid_laid, whole_put               all bytes at once, where there is room for them
+--     whole_put                         all bytes at once, where there is room for them
 --     Laying, laying-..                 the loop that puts the eight bytes of a route: those before i are put
 --     joined g l                        == the texts g x for each x of l
 --     Going, going-..                   the loop over the members of a set: the texts of those gone over are put
@@ -19,7 +19,7 @@ use lib.Seq.{set_out, take-suc, take-length}
 use Rattle.std.proofs.Math.Nat.{mul-le-mul_right}
 use Rattle.facts.proofs.Bools.{cases}
 use Rattle.facts.specs.Laid.{laid}
-use Rattle.facts.proofs.Stores.{laid_append, laid_after, laid_whole, length_laid}
+use Rattle.facts.proofs.Stores.{laid_append, laid_mid, length_laid}
 use Rattle.sets.specs.Sets.{Set, has}
 use Rattle.sets.specs.Members.{list_from, members}
 use Rattle.blocks.specs.declared.bytes.Place.{Place}
@@ -72,11 +72,6 @@ pub placed_most : {text : List ℕ} {m : ℕ} {p q : Place} (k : ℕ) → Placed
 placed_most k s h = record { same = s.same; put = put_most k s.put h }
 
 -- all bytes at once, where there is room for them
-pub mid_laid : (at : ℕ) (text l : List ℕ) → at + length text ≤ length l → take at l ++ (text ++ drop (length text) (drop at l)) ≡ laid at text l
-mid_laid zero text l h = sym (laid_whole text l (omega arith))
-mid_laid (suc at) text [] h = absurd (omega arith)
-mid_laid (suc at) text (x ∷ l) h = ap (λ (r : List ℕ). x ∷ r) (mid_laid at text l (omega arith)) ∙ sym (laid_after at text x l)
-
 pub whole_put : (at command : ℕ) (route mid x : List ℕ) → length route ≡ 8 → at + 9 ≤ length x → mid ≡ route
     → Put at (command ∷ route) 9 x (take (at + 1) (set x at command) ++ (mid ++ drop (at + 9 - (at + 1)) (drop (at + 1) (set x at command)))) (at + 9)
 unfolding laid
@@ -84,7 +79,7 @@ whole_put at command route mid x long room e =
     let k : at + 9 - (at + 1) ≡ length route = omega arith in
     let l = length-set x at command in
     record {
-      bytes = rw (e, k) (mid_laid (at + 1) route (set x at command) (omega arith) ∙ ap (λ (i : ℕ). laid i route (set x at command)) (add-one at));
+      bytes = rw (e, k) (laid_mid (at + 1) route (set x at command) (omega arith) ∙ ap (λ (i : ℕ). laid i route (set x at command)) (add-one at));
       place = omega arith;
       bound = omega arith;
     }
