@@ -8,7 +8,7 @@
 -- Assumes nothing.
 use mathlib.Core.Path.{◌≡◌, refl, sym, ap, ◌∙◌}
 use mathlib.Core.List.{List, [], ◌∷◌, ◌++◌, map, append_assoc}
-use Prim.Native.Nat.{ℕ, zero, suc, ◌<◌}
+use Prim.Native.Nat.{ℕ, zero, suc, ◌+◌, ◌<◌}
 use native.Mathlib.Nat.{zero-add}
 use native.Mathlib.Omega.{arith}
 use lib.Dec.{eqb}
@@ -22,11 +22,12 @@ use Rattle.rules.specs.Blocks.{operand, Route, encode_routes, encode_reports, en
 use Rattle.rules.specs.Rules.{sources_for, pairs_of}
 use Rattle.rules.proofs.Groups.{encode_append}
 use Rattle.flow.specs.declared.Flow.{Flow}
-use Rattle.flow.specs.declared.Sought.{Sought}
-use Rattle.flow.specs.Search.{lowest_of, flow_by}
+use Rattle.flow.specs.Search.{Sought, lowest_of, flow_by}
 use Rattle.flow.specs.Routes.{trail, routes_of}
-use Rattle.blocks.specs.Written.{routes_by, fans_by, mesh_by, report_by, block_by, Put, BlockPut}
-use Rattle.blocks.proofs.Putting.{joined, put_join}
+use Rattle.blocks.specs.declared.bytes.Place.{Place}
+use Rattle.blocks.specs.Written.{routes_by, fans_by, mesh_by, report_by, block_by, BlockPut}
+use Rattle.blocks.specs.Placed.{Placed}
+use Rattle.blocks.proofs.Putting.{joined, placed_join}
 
 eqb_turned : (a b : ℕ) → eqb a b ≡ eqb b a
 eqb_turned a b = same (eqb a b) (eqb b a) (λ e. eq-eqb b a (sym (eqb-true a b e))) (λ e. eq-eqb a b (sym (eqb-true b a e)))
@@ -59,14 +60,16 @@ pub route_is : (command : ℕ) (φ : Flow) (r x : ℕ) (route : List ℕ) → ro
 unfolding route_text
 route_is command φ r x route e = ap (λ (l : List ℕ). command ∷ l) e
 
-pub fan_is : (rows nears : List ℕ) (W sources k r : ℕ) (s : Sought) → s ≡ flow_by rows (get_or nears r 0) W sources r k → encode_routes 19 (routes_of s.flow r) ≡ fan_text rows nears W sources k r
+pub fan_is : (rows nears : List ℕ) (W sources k r : ℕ) (φ : Flow) (s : Sought) → φ ≡ s.flow → s ≡ flow_by rows (get_or nears r 0) W sources r k
+    → encode_routes 19 (routes_of φ r) ≡ fan_text rows nears W sources k r
 unfolding fan_text routes_by
-fan_is rows nears W sources k r s e = ap (λ (t : Sought). encode_routes 19 (routes_of t.flow r)) e
+fan_is rows nears W sources k r φ s f e = ap (λ (t : Flow). encode_routes 19 (routes_of t r)) (f ∙ ap (λ (t : Sought). t.flow) e)
 
-pub pair_is : (rows nears : List ℕ) (W r x only : ℕ) → only ≡ single x → (s : Sought) → s ≡ flow_by rows (get_or nears r 0) W only r 1 → encode_routes 18 (routes_of s.flow r) ≡ pair_text rows nears W r x
+pub pair_is : (rows nears : List ℕ) (W r x only : ℕ) → only ≡ single x → (φ : Flow) (s : Sought) → φ ≡ s.flow → s ≡ flow_by rows (get_or nears r 0) W only r 1
+    → encode_routes 18 (routes_of φ r) ≡ pair_text rows nears W r x
 unfolding pair_text routes_by
-pair_is rows nears W r x only o s e =
-    ap (λ (t : Sought). encode_routes 18 (routes_of t.flow r)) (e ∙ ap (λ (y : ℕ). flow_by rows (get_or nears r 0) W y r 1) o)
+pair_is rows nears W r x only o φ s f e =
+    ap (λ (t : Flow). encode_routes 18 (routes_of t r)) (f ∙ ap (λ (t : Sought). t.flow) e ∙ ap (λ (y : ℕ). (flow_by rows (get_or nears r 0) W y r 1).flow) o)
 
 pub one_is : (rows nears : List ℕ) (W S r : ℕ) → encode_routes 18 (mesh_by rows nears W (sources_for r (members S))) ≡ one_text rows nears W S r
 unfolding one_text
@@ -142,26 +145,26 @@ module _ (nears : List ℕ) (W count : ℕ) where
   reports_text (k ∷ ks) = ap (λ (l : List ℕ). 20 ∷ k ∷ lowest_of count (meet W (get_or nears k 0)) ∷ l) (reports_text ks)
 
 -- one report, three bytes
-pub report_put : {start : ℕ} {x u v z : List ℕ} {a b r : ℕ} (W near count receiver : ℕ) {both reporters : ℕ} → both ≡ meet W near → reporters ≡ lowest_of count both
-    → Put start (20 ∷ []) 1 x u a → Put a (receiver ∷ []) 1 u v b → Put b (reporters ∷ []) 1 v z r
-    → Put start (20 ∷ receiver ∷ lowest_of count (meet W near) ∷ []) 3 x z r
-report_put W near count receiver e g p q s = put_join (put_join p q) (rw (g, e) at s)
+pub report_put : {p q r t : Place} (W near count receiver : ℕ) {both reporters : ℕ} → both ≡ meet W near → reporters ≡ lowest_of count both
+    → Placed (20 ∷ []) 1 p q → Placed (receiver ∷ []) 1 q r → Placed (reporters ∷ []) 1 r t
+    → Placed (20 ∷ receiver ∷ lowest_of count (meet W near) ∷ []) 3 p t
+report_put W near count receiver e g a b d = placed_join (placed_join a b) (rw (g, e) at d)
 
 -- a block
 
-pub head_put : {x u v w z : List ℕ} {a b c r : ℕ} (F A S : ℕ) → Put 0 (16 ∷ []) 1 x u a → Put a (F ∷ []) 1 u v b → Put b (A ∷ []) 1 v w c → Put c (S ∷ []) 1 w z r
-    → Put 0 (16 ∷ F ∷ A ∷ S ∷ []) 4 x z r
-head_put F A S p q k l = put_join (put_join (put_join p q) k) l
+pub head_put : {p q r t w : Place} (F A S : ℕ) → Placed (16 ∷ []) 1 p q → Placed (F ∷ []) 1 q r → Placed (A ∷ []) 1 r t → Placed (S ∷ []) 1 t w
+    → Placed (16 ∷ F ∷ A ∷ S ∷ []) 4 p w
+head_put F A S a b c d = placed_join (placed_join (placed_join a b) c) d
 
-pub block_put : (rows nears : List ℕ) (W count F A S : ℕ) {x head mesh fans z : List ℕ} {a o t r : ℕ}
-    → Put 0 (16 ∷ F ∷ A ∷ S ∷ []) 4 x head a
-    → Put a (encode_routes 18 (mesh_by rows nears W (pairs_of (members S) (members S)))) 4608 head mesh o
-    → Put o (encode_routes 19 (fans_by rows nears W S count (members (minus W S)))) 576 mesh fans t
-    → Put t (encode_reports (map (report_by nears W count) (members F))) 24 fans z r
-    → BlockPut (block_by rows nears W count F A S) x z r
+pub block_put : (rows nears : List ℕ) (W count F A S : ℕ) {p head mesh fans last : Place} → p.at ≡ 0
+    → Placed (16 ∷ F ∷ A ∷ S ∷ []) 4 p head
+    → Placed (encode_routes 18 (mesh_by rows nears W (pairs_of (members S) (members S)))) 4608 head mesh
+    → Placed (encode_routes 19 (fans_by rows nears W S count (members (minus W S)))) 576 mesh fans
+    → Placed (encode_reports (map (report_by nears W count) (members F))) 24 fans last
+    → {after : List ℕ} → after ≡ last.part.now → BlockPut (block_by rows nears W count F A S) p.part.now after last.at
 unfolding block_by encode_block encode_routes
-block_put rows nears W count F A S p m f g =
-    let whole = put_join (put_join (put_join p m) f) g in
+block_put rows nears W count F A S z p m f g {after} e =
+    let whole = (placed_join (placed_join (placed_join p m) f) g).put in
     let n = whole.place in
     let b = whole.bound in
-    record { bytes = whole.bytes; long = n ∙ zero-add (length (encode_block (block_by rows nears W count F A S))); few = omega arith }
+    record { bytes = e ∙ (rw z at whole.bytes); long = n ∙ ap (λ (i : ℕ). i + length (encode_block (block_by rows nears W count F A S))) z ∙ zero-add (length (encode_block (block_by rows nears W count F A S))); few = omega arith }

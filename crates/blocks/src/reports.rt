@@ -1,47 +1,36 @@
-// The reports of a block, laid into lent memory from a place on.
-ghost use Rattle.std.specs.Prelude.{[], ◌∷◌, map, ◌≤◌};
+// The reports of a block, laid into lent memory.
+ghost use Rattle.std.specs.Prelude.{[], ◌∷◌, map, get_or, ◌≤◌, ◌<◌};
 ghost use Rattle.sets.specs.Sets.{meet};
 ghost use Rattle.flow.specs.Search.{lowest_of};
 ghost use Rattle.sets.specs.Members.{members};
 ghost use Rattle.rules.specs.Blocks.{encode_reports};
-ghost use Rattle.blocks.specs.Written.{report_by, Put};
+ghost use Rattle.blocks.specs.Written.{report_by};
+ghost use Rattle.blocks.specs.Placed.{Placed};
 
-use crate::bytes;
+use crate::Site;
+use crate::bytes::Place;
 use separate::lowest;
 
-// The report to one server: the `count` lowest servers of `sound` with a link to it.
-fn put_report(part: &mut [u8], start: usize, near: u8, count: u8, sound: u8, receiver: u8) -> usize
-    requires { start ≤ 1000000 }
-    ensures { Put start (20 ∷ receiver ∷ lowest_of count (meet sound near) ∷ []) 3 part.old part.new result }
-{
-    let reporters = lowest::lowest_of(sets::meet(sound, near), count);
-    let a = bytes::put_byte(&mut *part, start, 20);
-    let b = bytes::put_byte(&mut *part, a, receiver);
-    bytes::put_byte(&mut *part, b, reporters)
-}
+impl<'a> Place<'a> {
+    // The report to one server: the `count` lowest servers of `sound` with a link to it.
+    fn put_report(&mut self, site: &Site, receiver: u8)
+        requires { (self.old.at ≤ 1000000) × (receiver < 8) }
+        ensures { Placed (20 ∷ receiver ∷ lowest_of site.now.count (meet site.now.sound (get_or site.now.sources receiver 0)) ∷ []) 3 self.old self.new }
+    {
+        let near = site.sources[receiver as usize];
+        let reporters = lowest::lowest_of(sets::meet(site.sound, near), site.count);
+        self.put(20);
+        self.put(receiver);
+        self.put(reporters);
+    }
 
-// The reports of 14: one to each server of F.
-pub(crate) fn put_reports(
-    part: &mut [u8],
-    start: usize,
-    sources: &[u8; 8],
-    count: u8,
-    sound: u8,
-    fault: u8,
-) -> usize
-    requires { start ≤ 900000 }
-    ensures { Put start (encode_reports (map (report_by sources.now sound count) (members fault))) 24 part.old part.new result }
-{
-    let mut at = start;
-    let mut k: u8 = 0;
-    while k < 8 {
-        if sets::member(fault, k) {
-            let next = put_report(&mut *part, at, sources[k as usize], count, sound, k);
-            at = next;
-            k += 1;
-        } else {
-            k += 1;
+    // The reports of 14: one to each server of F.
+    pub(crate) fn put_reports(&mut self, site: &Site)
+        requires { self.old.at ≤ 900000 }
+        ensures { Placed (encode_reports (map (report_by site.now.sources site.now.sound site.now.count) (members site.now.fault))) 24 self.old self.new }
+    {
+        for k in sets::ascending(site.fault) {
+            self.put_report(site, k);
         }
     }
-    at
 }

@@ -1,117 +1,78 @@
-// The routes of a block, laid into lent memory from a place on.
-ghost use Rattle.std.specs.Prelude.{◌≤◌, ◌<◌};
+// The routes of a block, laid into lent memory.
+ghost use Rattle.std.specs.Prelude.{◌≡◌, ◌≤◌, ◌<◌};
 ghost use Rattle.sets.specs.Sets.{minus};
 ghost use Rattle.sets.specs.Members.{members};
 ghost use Rattle.rules.specs.Blocks.{encode_routes};
 ghost use Rattle.rules.specs.Rules.{sources_for, pairs_of};
+ghost use Rattle.flow.specs.Search.{sought_of};
 ghost use Rattle.flow.specs.Routes.{routes_of};
-ghost use Rattle.blocks.specs.Written.{fans_by, mesh_by, Put};
+ghost use Rattle.blocks.specs.Written.{routes_by, fans_by, mesh_by};
+ghost use Rattle.blocks.specs.Placed.{Placed};
 
-use crate::bytes;
-use flow::Flow;
+use crate::Site;
+use crate::bytes::Place;
+use flow::{Flow, Searched};
 use separate::{search, trail};
 
-// The routes of a flow, by their starts ascending; the place after them.
-fn put_routes(part: &mut [u8], start: usize, command: u8, flow: Flow, receiver: u8) -> usize
-    requires { start ≤ 900000 }
-    ensures { Put start (encode_routes command (routes_of flow receiver)) 72 part.old part.new result }
+// The flow that a search ends with, with all routes that it found.
+#[tactic(auto, unfolding(flow::specs::Search::reached, flow::specs::Search::lost))]
+fn flow_of(sought: Result<Searched, Searched>) -> Flow
+    ensures { result ≡ (sought_of sought).flow }
 {
-    let mut at = start;
-    let mut x: u8 = 0;
-    while x < 8 {
-        if sets::member(flow.start, x) {
+    match sought {
+        Ok(all) => all.flow,
+        Err(fewer) => fewer.flow,
+    }
+}
+
+impl<'a> Place<'a> {
+    // The routes of a flow, by their starts ascending.
+    fn put_routes(&mut self, command: u8, flow: Flow, receiver: u8)
+        requires { self.old.at ≤ 900000 }
+        ensures { Placed (encode_routes command (routes_of flow receiver)) 72 self.old self.new }
+    {
+        for x in sets::ascending(flow.start) {
             let route = trail::operand(flow, receiver, x);
-            let next = bytes::put_route(&mut *part, at, command, route);
-            at = next;
-            x += 1;
-        } else {
-            x += 1;
+            self.put_route(command, route);
         }
     }
-    at
-}
 
-// The routes of 13: `count` from S to each other server of `sound`.
-pub(crate) fn put_fans(
-    part: &mut [u8],
-    start: usize,
-    rows: &[u8; 8],
-    sources: &[u8; 8],
-    count: u8,
-    sound: u8,
-    quorum: u8,
-) -> usize
-    requires { start ≤ 800000 }
-    ensures { Put start (encode_routes 19 (fans_by rows.now sources.now sound quorum count (members (minus sound quorum)))) 576 part.old part.new result }
-{
-    let others = sets::minus(sound, quorum);
-    let mut at = start;
-    let mut r: u8 = 0;
-    while r < 8 {
-        if sets::member(others, r) {
-            let sought = search::flow_to(rows, sources[r as usize], sound, quorum, r, count);
-            let next = put_routes(&mut *part, at, 19, sought.flow, r);
-            at = next;
-            r += 1;
-        } else {
-            r += 1;
+    // The routes of 13: `count` from S to each other server of `sound`.
+    pub(crate) fn put_fans(&mut self, site: &Site, quorum: u8)
+        requires { self.old.at ≤ 800000 }
+        ensures { Placed (encode_routes 19 (fans_by site.now.rows site.now.sources site.now.sound quorum site.now.count (members (minus site.now.sound quorum)))) 576 self.old self.new }
+    {
+        let others = sets::minus(site.sound, quorum);
+        for r in sets::ascending(others) {
+            let near = site.sources[r as usize];
+            let sought = search::flow_to(&site.rows, near, site.sound, quorum, r, site.count);
+            let flow = flow_of(sought);
+            self.put_routes(19, flow, r);
         }
     }
-    at
-}
 
-// The routes of 12 to one server of S from each other one.
-fn put_to_one(
-    part: &mut [u8],
-    start: usize,
-    rows: &[u8; 8],
-    sources: &[u8; 8],
-    sound: u8,
-    quorum: u8,
-    receiver: u8,
-) -> usize
-    requires { (start ≤ 800000) × (receiver < 8) }
-    ensures { Put start (encode_routes 18 (mesh_by rows.now sources.now sound (sources_for receiver (members quorum)))) 576 part.old part.new result }
-{
-    let near = sources[receiver as usize];
-    let others = sets::minus(quorum, sets::single(receiver));
-    let mut at = start;
-    let mut s: u8 = 0;
-    while s < 8 {
-        if sets::member(others, s) {
-            let sought = search::flow_to(rows, near, sound, sets::single(s), receiver, 1);
-            let next = put_routes(&mut *part, at, 18, sought.flow, receiver);
-            at = next;
-            s += 1;
-        } else {
-            s += 1;
+    // The routes of 12 to one server of S from each other one.
+    fn put_to_one(&mut self, site: &Site, quorum: u8, receiver: u8)
+        requires { (self.old.at ≤ 800000) × (receiver < 8) }
+        ensures { Placed (encode_routes 18 (mesh_by site.now.rows site.now.sources site.now.sound (sources_for receiver (members quorum)))) 576 self.old self.new }
+    {
+        let near = site.sources[receiver as usize];
+        let others = sets::minus(quorum, sets::single(receiver));
+        for s in sets::ascending(others) {
+            let source = sets::single(s);
+            let sought = search::flow_to(&site.rows, near, site.sound, source, receiver, 1);
+            let flow = flow_of(sought);
+            self.put_routes(18, flow, receiver);
         }
     }
-    at
-}
 
-// The routes of 12: one for each server of S and each other one as its source.
-pub(crate) fn put_mesh(
-    part: &mut [u8],
-    start: usize,
-    rows: &[u8; 8],
-    sources: &[u8; 8],
-    sound: u8,
-    quorum: u8,
-) -> usize
-    requires { start ≤ 700000 }
-    ensures { Put start (encode_routes 18 (mesh_by rows.now sources.now sound (pairs_of (members quorum) (members quorum)))) 4608 part.old part.new result }
-{
-    let mut at = start;
-    let mut r: u8 = 0;
-    while r < 8 {
-        if sets::member(quorum, r) {
-            let next = put_to_one(&mut *part, at, rows, sources, sound, quorum, r);
-            at = next;
-            r += 1;
-        } else {
-            r += 1;
+    // The routes of 12: one for each server of S and each other one as its source.
+    pub(crate) fn put_mesh(&mut self, site: &Site, quorum: u8)
+        requires { self.old.at ≤ 700000 }
+        ensures { Placed (encode_routes 18 (mesh_by site.now.rows site.now.sources site.now.sound (pairs_of (members quorum) (members quorum)))) 4608 self.old self.new }
+    {
+        for r in sets::ascending(quorum) {
+            self.put_to_one(site, quorum, r);
         }
     }
-    at
 }

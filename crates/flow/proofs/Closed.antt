@@ -24,8 +24,7 @@ use Rattle.sets.proofs.Members.{has_meet, has_union, has_minus, has_empty, has_s
 use Rattle.sets.proofs.Counts.{count_mono, count_le}
 use Rattle.sets.proofs.LowestMember.{first_in_found}
 use Rattle.flow.specs.declared.Flow.{Flow}
-use Rattle.flow.specs.declared.Sought.{Sought}
-use Rattle.flow.specs.Search.{out_in, lost, reached, changed, feeder, behind, step_in, step_out, with_start, tries, ahead, enter, leave, sides, seek}
+use Rattle.flow.specs.Search.{Sought, out_in, lost, reached, changed, feeder, behind, step_in, step_out, with_start, tries, ahead, enter, leave, sides, seek}
 use Rattle.flow.proofs.Updates.{eqb_self, has_put, count_start}
 
 -- marks

@@ -31,8 +31,7 @@ use Rattle.rules.specs.Blocks.{Route, source_of, receiver_of}
 use Rattle.rules.specs.Rules.{IsRoute}
 use Rattle.rules.specs.Routable.{Passes}
 use Rattle.flow.specs.declared.Flow.{Flow}
-use Rattle.flow.specs.declared.Sought.{Sought}
-use Rattle.flow.specs.Search.{seek, last_in, linking, linked_to, flow_to}
+use Rattle.flow.specs.Search.{Sought, seek, last_in, linking, linked_to, flow_to}
 use Rattle.flow.specs.Routes.{cut_of, cut, separate_routes}
 use Rattle.flow.specs.Theorems.{CutOff, sought, Cuts}
 use Rattle.flow.proofs.Kept.{Valid}

@@ -30,8 +30,7 @@ use Rattle.rules.proofs.Lists.{length_members, members_in}
 use Rattle.rules.proofs.Routes.{sound_small}
 use Rattle.rules.proofs.Fans.{Different, members_different}
 use Rattle.flow.specs.declared.Flow.{Flow}
-use Rattle.flow.specs.declared.Sought.{Sought}
-use Rattle.flow.specs.Search.{last_in, linking, linked_to, flow_to}
+use Rattle.flow.specs.Search.{Sought, last_in, linking, linked_to, flow_to}
 use Rattle.flow.specs.Routes.{trail, routes_of, cut_of, routes, cut, separate_routes}
 use Rattle.flow.specs.Theorems.{Found, Finds}
 use Rattle.flow.proofs.Kept.{Valid}

@@ -22,8 +22,7 @@ use Rattle.sets.proofs.Members.{has_union, has_meet, has_minus, has_single, has_
 use Rattle.sets.proofs.Counts.{count_none}
 use Rattle.sets.proofs.LowestMember.{first_in_found}
 use Rattle.flow.specs.declared.Flow.{Flow}
-use Rattle.flow.specs.declared.Sought.{Sought}
-use Rattle.flow.specs.Search.{straight, out_in, with_start, with_end, with_use, without_use, with_step, without_step, lost, reached, changed, feeder, behind, step_in, step_out, tries, ahead, enter, leave, sides, seek, seek_all, lowest_of, linked_to, flow_by, flow_to}
+use Rattle.flow.specs.Search.{Sought, straight, out_in, with_start, with_end, with_use, without_use, with_step, without_step, lost, reached, changed, feeder, behind, step_in, step_out, tries, ahead, enter, leave, sides, seek, seek_all, lowest_of, linked_to, flow_by, flow_to}
 use Rattle.flow.proofs.Membership.{has_both, shared_small}
 use Rattle.flow.proofs.Lowest.{lowest_of_inside, lowest_of_few}
 use Rattle.flow.proofs.Kept.{nowhere, Kept, Valid}

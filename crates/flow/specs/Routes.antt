@@ -6,8 +6,7 @@ use Rattle.sets.specs.Sets.{has, minus, lowest}
 use Rattle.sets.specs.Members.{members}
 use Rattle.rules.specs.Blocks.{Route}
 use Rattle.flow.specs.declared.Flow.{Flow}
-use Rattle.flow.specs.declared.Sought.{Sought}
-use Rattle.flow.specs.Search.{flow_to}
+use Rattle.flow.specs.Search.{Sought, flow_to}
 
 -- the route from x on, with at most k servers before r; seven are enough, as eight are all that there can be
 unfoldable pub trail : Flow → (r k x : ℕ) → Route

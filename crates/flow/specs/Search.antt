@@ -10,10 +10,10 @@
 --              route passes x
 --     seek     the search from the entry sides of the sources: the flow with one route more; or, not found, the flow as it was and the sides seen
 --     flow_to   the flow with k routes, straight ones first, then one sought after the other; or the search that did not find one more
-use Rattle.std.specs.Prelude.{Bool, true, false, cond, not, ◌&&◌, List, ℕ, zero, suc, ◌-◌, eqb, ltb, get_or, set, replicate}
+use Rattle.std.specs.Prelude.{Bool, true, false, cond, not, ◌&&◌, List, ℕ, zero, suc, ◌-◌, eqb, ltb, get_or, set, replicate, Option, Some, None, Result, Ok, Err}
 use Rattle.sets.specs.Sets.{has, single, union, meet, minus, encode, first_in, size, lowest}
 use Rattle.flow.specs.declared.Flow.{Flow}
-use Rattle.flow.specs.declared.Sought.{Sought}
+use Rattle.flow.specs.declared.Searched.{Searched}
 
 -- the k lowest members of s, or all if it has not so many
 unfoldable pub lowest_of : (k s : ℕ) → ℕ
@@ -54,6 +54,14 @@ without_step x y φ = record { used = φ.used; start = φ.start; ends = φ.ends;
 
 -- searches
 
+-- what a search answers: whether it found one route more, the flow with it or as it was, and the servers whose entry side and whose leaving side
+-- were seen
+pub record Sought : Type 0 where
+  pub found : Bool
+  pub flow : Flow
+  pub entered : ℕ
+  pub left : ℕ
+
 -- nothing found: the flow as it is, and the sides seen
 unfoldable pub lost : Flow → (entered left : ℕ) → Sought
 lost φ entered left = record { found = false; flow = φ; entered = entered; left = left }
@@ -61,6 +69,11 @@ lost φ entered left = record { found = false; flow = φ; entered = entered; lef
 -- the receiver reached
 unfoldable pub reached : Flow → (entered left : ℕ) → Sought
 reached φ entered left = record { found = true; flow = φ; entered = entered; left = left }
+
+-- the answer that the code's answer stands for
+abbrev pub sought_of : Result Searched Searched → Sought
+sought_of (Ok s) = reached s.flow s.entered s.left
+sought_of (Err s) = lost s.flow s.entered s.left
 
 -- what was found, with one step more
 unfoldable pub changed : (Flow → Flow) → Sought → Sought
@@ -73,6 +86,10 @@ feeder φ x = first_in 8 0 (λ (p : ℕ). out_in φ p x)
 -- the server to whose leaving side the entry side of x leads; 8 if it leads nowhere, as x is where its route starts
 unfoldable pub behind : Flow → ℕ → ℕ
 behind φ x = cond (has φ.used x) (feeder φ x) x
+
+-- a server by its number, which is below 8; none at another number
+abbrev pub server_at : ℕ → Option ℕ
+server_at q = cond (ltb q 8) (Some q) None
 
 -- the step from the entry side of x to the leaving side of q: a route passes x, or no longer goes from q to x
 unfoldable pub step_in : ℕ → ℕ → Flow → Flow

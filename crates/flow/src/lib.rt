@@ -15,11 +15,10 @@ pub struct Flow {
     pub out: [u8; 8],
 }
 
-// What a search answers: whether it found one route more, the flow with it or as it was, and the
-// servers whose entry side and whose leaving side were seen.
-#[derive(Drop)]
-pub struct Sought {
-    pub found: bool,
+// What a search ends with: the flow, and the servers whose entry side and whose leaving side were seen.
+// A search answers `Ok` with one route more in the flow, or `Err` with the flow as it was.
+#[derive(Clone, Copy, Drop)]
+pub struct Searched {
     pub flow: Flow,
     pub entered: u8,
     pub left: u8,

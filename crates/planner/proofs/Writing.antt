@@ -35,8 +35,7 @@ use Rattle.rules.proofs.Lists.{members_in}
 use Rattle.rules.proofs.Groups.{each_cons, each_append, separate_append}
 use Rattle.rules.proofs.Fans.{Different, members_different, in_repeated, map_join, map_same}
 use Rattle.rules.proofs.Order.{due_in}
-use Rattle.flow.specs.declared.Sought.{Sought}
-use Rattle.flow.specs.Search.{flow_to}
+use Rattle.flow.specs.Search.{Sought, flow_to}
 use Rattle.flow.specs.Routes.{separate_routes}
 use Rattle.flow.specs.Theorems.{Found}
 use Rattle.flow.proofs.Finding.{finds}

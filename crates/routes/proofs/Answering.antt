@@ -1,6 +1,6 @@
 -- What is answered and written, and what the theorems on the search say of it.
 --     written-..     the two answers of `write_routes`: a buffer without room is refused, any other holds the routes
---     answer-..      the three answers of `routes_in`: 13, a cut, and what `write_routes` answers
+--     answer-..      the three answers of `Call::answer`: 13, a cut, and what `write_routes` answers; bytes_routes what it writes
 --     routes_found   routes that are answered are f + 1 separate routes, and the first bytes hold them
 --     cut_missed     a cut that is answered cuts every route off
 --     answered-..    what is said of n, f and links is said of the card that was read
@@ -21,22 +21,22 @@ use Rattle.refusal.specs.Refused.{refusal_of, call}
 use Rattle.refusal.specs.declared.Refusal.{Refusal}
 use Rattle.sets.specs.Sets.{minus, full, size}
 use Rattle.network.specs.Links.{Links, linked_in}
-use Rattle.network.specs.Card.{read_card, head, turned, head_of, links_after}
+use Rattle.network.specs.Card.{network, refused, read_card}
 use Rattle.network.specs.Rows.{rows_of}
 use Rattle.network.specs.Proper.{Proper}
-use Rattle.network.proofs.Heads.{network_is, refused_of}
 use Rattle.network.proofs.Networks.{card_proper}
 use Rattle.rules.specs.Blocks.{Route}
 use Rattle.flow.specs.declared.Flow.{Flow}
-use Rattle.flow.specs.declared.Sought.{Sought}
-use Rattle.flow.specs.Search.{flow_to}
+use Rattle.flow.specs.Search.{sought_of, lost, reached, flow_to}
 use Rattle.flow.specs.Routes.{Separated, routes, cut, routes_of, cut_of, separate_routes}
 use Rattle.flow.specs.Theorems.{Found, CutOff, sought}
 use Rattle.flow.proofs.Finding.{finds}
 use Rattle.flow.proofs.Cutting.{cuts}
 use Rattle.routes.specs.Routing.{routed, cut_off, unrouted, call_fits, operands, answer_to, answer_for, route_into, operands_of, after_routes, routed_in}
 use Rattle.routes.specs.Answers.{routing_of, Answered}
-use Rattle.routes.specs.declared.Routed.{Routed}
+use Rattle.std.specs.Prelude.{Result, Ok, Err}
+use Rattle.flow.specs.declared.Searched.{Searched}
+use Rattle.routes.specs.declared.Routing as Code
 use Rattle.routes.proofs.Laying.{operands_long, routes_long, routes_many}
 
 -- write_routes
@@ -69,27 +69,30 @@ module _ (n f : ℕ) (links : Links) (F sources r : ℕ) (lent : List ℕ) (b : 
   unfolding answer_for
   answer_unfit h = let z = sym e ∙ h in sym (simp z)
 
-  module _ (h : b ≡ true) (s : Sought) (q : s ≡ flow_to (rows_of (linked_in links)) (minus (full n) F) sources r (f + 1)) where
+  module _ (h : b ≡ true) (m : Searched) (t : Result Searched Searched) (q : sought_of t ≡ flow_to (rows_of (linked_in links)) (minus (full n) F) sources r (f + 1)) where
     answer_is : answer_for n f links F sources r lent ≡ answer_to (f + 1) (sought n links F sources r (f + 1)) lent
     unfolding answer_for
     answer_is = let z = sym e ∙ h in simp z
 
-    pub answer_cut : s.found ≡ false → (K : ℕ) → K ≡ minus s.entered s.left → cut_off K ≡ answer_for n f links F sources r lent
-    unfolding cut_of separate_routes
-    answer_cut g K c = sym (answer_is ∙ rw (← q, g, c) refl)
+    pub answer_cut : t ≡ Err m → (K : ℕ) → K ≡ minus m.entered m.left → cut_off K ≡ answer_for n f links F sources r lent
+    unfolding cut_of separate_routes lost
+    answer_cut g K c = let w = rw g at q in sym (answer_is ∙ rw (← w, c) refl)
 
-    module _ (p : Proper n f links) (g : s.found ≡ true) where
-      routes_are : sought n links F sources r (f + 1) ≡ routes (routes_of s.flow r)
-      unfolding separate_routes
-      routes_are = rw (← q, g) refl
+    module _ (p : Proper n f links) (g : t ≡ Ok m) where
+      routes_are : sought n links F sources r (f + 1) ≡ routes (routes_of m.flow r)
+      unfolding separate_routes reached
+      routes_are = let w = rw g at q in rw (← w) refl
 
-      count_is : size s.flow.start ≡ f + 1
-      count_is = sym (routes_many s.flow r) ∙ (finds n f links p F sources r (f + 1) (routes_of s.flow r) routes_are).many
+      count_is : size m.flow.start ≡ f + 1
+      count_is = sym (routes_many m.flow r) ∙ (finds n f links p F sources r (f + 1) (routes_of m.flow r) routes_are).many
 
-      pub answer_routes : (a : Routed) (after : List ℕ)
-          → (routing_of a ≡ answer_to (size s.flow.start) (routes (routes_of s.flow r)) lent) × (after ≡ after_routes (routing_of a) (operands (routes_of s.flow r)) lent)
-          → (routing_of a ≡ answer_for n f links F sources r lent) × (after ≡ after_routes (routing_of a) (operands_of (sought n links F sources r (f + 1))) lent)
-      answer_routes a after (x, y) = (let z = rw count_is at x in z ∙ sym (answer_is ∙ rw routes_are refl), rw routes_are y)
+      module _ (a : Result Code.Routing Refusal) where
+        pub answer_routes : routing_of a ≡ answer_to (size m.flow.start) (routes (routes_of m.flow r)) lent → routing_of a ≡ answer_for n f links F sources r lent
+        answer_routes x = let z = rw count_is at x in z ∙ sym (answer_is ∙ rw routes_are refl)
+
+        pub bytes_routes : (after : List ℕ) → after ≡ after_routes (routing_of a) (operands (routes_of m.flow r)) lent
+            → after ≡ after_routes (routing_of a) (operands_of (sought n links F sources r (f + 1))) lent
+        bytes_routes after y = rw routes_are y
 
 -- the theorems on the search
 
@@ -137,7 +140,7 @@ module _ (n f : ℕ) (links : Links) (p : Proper n f links) (F sources r : ℕ) 
 
 module _ (s : List ℕ) (F sources r : ℕ) (lent : List ℕ) where
   -- of the answer and the bytes that are defined, the theorems hold
-  answered_so : (a : Routed) (after : List ℕ) → routing_of a ≡ route_into s F sources r lent → after ≡ routed_in s F sources r lent → Answered s F sources r lent a after
+  answered_so : (a : Result Code.Routing Refusal) (after : List ℕ) → routing_of a ≡ route_into s F sources r lent → after ≡ routed_in s F sources r lent → Answered s F sources r lent a after
   unfolding route_into routed_in
   answered_so a after x y =
       record {
@@ -153,16 +156,12 @@ module _ (s : List ℕ) (F sources r : ℕ) (lent : List ℕ) where
             cut_missed n f links (card_proper s n f links c) F sources r lent K (sym u ∙ e);
       }
 
-  pub answered_refused : (w : Refusal) → head_of (read_card s) ≡ turned (refusal_of w) → Answered s F sources r lent (Routed.Refused w) lent
+  pub answered_refused : (w : Refusal) → refused (refusal_of w) ≡ read_card s → Answered s F sources r lent (Err w) lent
   unfolding route_into routed_in
-  answered_refused w e =
-      let q = refused_of (read_card s) (refusal_of w) e in
-      answered_so (Routed.Refused w) lent (rw q refl) (rw q refl)
+  answered_refused w e = answered_so (Err w) lent (rw (sym e) refl) (rw (sym e) refl)
 
-  pub answered_network : (n f : ℕ) (before links : Links) → head_of (read_card s) ≡ head n f → links ≡ links_after (read_card s) before
-      → (a : Routed) (after : List ℕ) → (routing_of a ≡ answer_for n f links F sources r lent) × (after ≡ after_routes (routing_of a) (operands_of (sought n links F sources r (f + 1))) lent)
+  pub answered_network : (n f : ℕ) (links : Links) → network n f links ≡ read_card s → (a : Result Code.Routing Refusal) (after : List ℕ)
+      → routing_of a ≡ answer_for n f links F sources r lent → after ≡ after_routes (routing_of a) (operands_of (sought n links F sources r (f + 1))) lent
       → Answered s F sources r lent a after
   unfolding route_into routed_in
-  answered_network n f before links e l a after (x, y) =
-      let q = network_is (read_card s) n f before links e l in
-      answered_so a after (rw q x) (rw (q, ← x) y)
+  answered_network n f links e a after x y = answered_so a after (rw (sym e) x) (rw (sym e, ← x) y)

@@ -1,52 +1,48 @@
 -- What a call may ask for, and the search that it starts.
---     fits-..         the four answers of `call_fits`
+--     both-..         a test, and then another one
+--     fits_all        the tests of `Call::fits`, one after the other
 --     fits_receiver   the receiver of a call that fits is a server
 --     near_is         the servers with a link to r, taken from the sources or from the rows
 --     search_is       the search of the code is the search of the definition
 -- Assumes nothing.
-use mathlib.Core.Path.{◌≡◌, ◌∙◌}
+use mathlib.Core.Path.{◌≡◌, sym, ◌∙◌}
 use mathlib.Core.Bool.{Bool, true, false, ◌&&◌}
 use mathlib.Core.List.{List}
 use Prim.Native.Nat.{ℕ, ◌+◌, ◌≤◌, ◌<◌, min}
 use native.Mathlib.Omega.{arith}
 use lib.ListN.{get_or}
 use lib.Dec.{ltb, leb}
-use borrow.Author.Tests.{ltb-true, le-leb, lt-leb}
-use Rattle.facts.proofs.Bools.{and_right}
+use borrow.Author.Tests.{ltb-true}
+use Rattle.facts.proofs.Bools.{cases, and_right}
 use Rattle.sets.specs.Sets.{minus, within, full, size}
 use Rattle.network.specs.Links.{Links, linked_in}
 use Rattle.network.specs.Rows.{rows_of}
 use Rattle.network.specs.Proper.{Proper}
 use Rattle.network.proofs.LinkRows.{rows_linked}
 use Rattle.split.specs.Sources.{sources_to, SourceRows}
-use Rattle.flow.specs.declared.Sought.{Sought}
-use Rattle.flow.specs.Search.{linking, flow_by, flow_to}
+use Rattle.flow.specs.Search.{Sought, linking, flow_by, flow_to}
 use Rattle.routes.specs.Routing.{call_fits}
 
 servers_are : (n all : ℕ) → n ≤ 8 → all ≡ full (min n 8) → all ≡ full n
 servers_are n all h e = let m : min n 8 ≡ n = omega arith in rw m at e
 
-module _ (n f F sources r k : ℕ) (sized : k ≡ size F) where
-  pub fits_many : f < k → false ≡ call_fits n f F sources r
-  unfolding call_fits
-  fits_many h = let m : f < size F = rw sized at h in let x = lt-leb (size F) f m in cc
+-- a test, and then another one
+pub both_then : {a b v x : Bool} → a ≡ true → v ≡ x → x ≡ b → v ≡ (a && b)
+both_then e f g = cc
 
-  module _ (few : k ≤ f) (all : ℕ) (most : n ≤ 8) (v : all ≡ full (min n 8)) (a : Bool) (p : a ≡ within F all) where
-    fits_few : leb (size F) f ≡ true
-    fits_few = let m : size F ≤ f = rw sized at few in le-leb (size F) f m
+pub both_else : {a v : Bool} (b : Bool) → a ≡ false → v ≡ false → v ≡ (a && b)
+both_else b e f = cc
 
-    pub fits_faults : a ≡ false → false ≡ call_fits n f F sources r
-    unfolding call_fits
-    fits_faults h = let x = fits_few in let e = servers_are n all most v in cc
-
-    module _ (h : a ≡ true) (b : Bool) (q : b ≡ within sources all) where
-      pub fits_sources : b ≡ false → false ≡ call_fits n f F sources r
-      unfolding call_fits
-      fits_sources l = let x = fits_few in let e = servers_are n all most v in cc
-
-      pub fits_last : b ≡ true → ltb r n ≡ call_fits n f F sources r
-      unfolding call_fits
-      fits_last l = let x = fits_few in let e = servers_are n all most v in cc
+-- the four tests, one after the other
+pub fits_all : (n f F sources r k all : ℕ) → k ≡ size F → n ≤ 8 → all ≡ full (min n 8) → (a b : Bool) → a ≡ (leb k f && within F all) → b ≡ (a && within sources all)
+    → (b && ltb r n) ≡ call_fits n f F sources r
+unfolding call_fits
+fits_all n f F sources r k all e most v a b p q =
+    let l = servers_are n all most v in
+    rw (q, p, e, l) (sym (apart (leb (size F) f) (within F (full n)) (within sources (full n)) (ltb r n)))
+  where
+    apart : (a b c d : Bool) → (a && (b && (c && d))) ≡ ((a && b) && c) && d
+    apart a b c d = cases a (λ x. cases b (λ y. cases c (λ z. cc) (λ z. cc)) (λ y. cc)) (λ x. cc)
 
 pub fits_receiver : (n f F sources r : ℕ) → call_fits n f F sources r ≡ true → r < n
 unfolding call_fits

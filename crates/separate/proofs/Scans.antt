@@ -2,15 +2,24 @@
 --     feeding-..     from p on, the search for the first server gives what it gives from 0 on
 --     behind-..      a server that a route passes leads back, another one through itself
 -- Assumes nothing.
-use mathlib.Core.Path.{◌≡◌, refl}
+use mathlib.Core.Path.{◌≡◌, refl, sym}
 use mathlib.Core.Bool.{Bool, true, false}
 use Prim.Native.Nat.{ℕ, suc, ◌+◌, ◌-◌, ◌<◌}
 use native.Mathlib.Numerals.{add-one}
 use native.Mathlib.Omega.{arith}
 use lib.ListN.{get_or}
+use borrow.Author.Tests.{lt-ltb}
+use Rattle.std.specs.Prelude.{Some, None}
 use Rattle.sets.specs.Sets.{has, first_in}
 use Rattle.flow.specs.declared.Flow.{Flow}
-use Rattle.flow.specs.Search.{out_in, feeder, behind}
+use Rattle.flow.specs.Search.{out_in, feeder, server_at}
+
+-- a server, and none
+server_is : (q w : ℕ) → q ≡ w → q < 8 → Some q ≡ server_at w
+server_is q w e h = let t = lt-ltb q 8 h in rw (sym e, t) refl
+
+server_none : (w : ℕ) → 8 ≡ w → None ≡ server_at w
+server_none w e = rw (sym e) refl
 
 -- feeder
 
@@ -23,25 +32,14 @@ unfolding feeder
 feeding_starts φ x = refl
 
 module _ (φ : Flow) (x p : ℕ) (here : Feeding φ x p) where
-  pub feeding_found : p < 8 → (b : Bool) → b ≡ has (get_or φ.out p 0) x → b ≡ true → p ≡ feeder φ x
+  pub feeding_found : p < 8 → (b : Bool) → b ≡ has (get_or φ.out p 0) x → b ≡ true → Some p ≡ server_at (feeder φ x)
   unfolding first_in out_in
-  feeding_found h b e t = let s : 8 - p ≡ suc (8 - (p + 1)) = omega arith in let i = rw s at here in cc
+  feeding_found h b e t = let s : 8 - p ≡ suc (8 - (p + 1)) = omega arith in let i = rw s at here in server_is p (feeder φ x) (cc) h
 
   pub feeding_on : p < 8 → (b : Bool) → b ≡ has (get_or φ.out p 0) x → b ≡ false → Feeding φ x (p + 1)
   unfolding first_in out_in
   feeding_on h b e t = let s : 8 - p ≡ suc (8 - (p + 1)) = omega arith in let i = rw s at here in let a = add-one p in cc
 
-  pub feeding_none : p ≡ 8 → 8 ≡ feeder φ x
+  pub feeding_none : p ≡ 8 → None ≡ server_at (feeder φ x)
   unfolding first_in
-  feeding_none e = rw e at here
-
--- behind
-
-module _ (φ : Flow) (x : ℕ) (b : Bool) (passed : b ≡ has φ.used x) where
-  pub behind_back : (q : ℕ) → b ≡ true → q ≡ feeder φ x → q ≡ behind φ x
-  unfolding behind
-  behind_back q t e = cc
-
-  pub behind_through : b ≡ false → x ≡ behind φ x
-  unfolding behind
-  behind_through t = cc
+  feeding_none e = server_none (feeder φ x) (rw e at here)

@@ -7,12 +7,8 @@ pub fn lowest_of(set: u8, count: u8) -> u8
     ensures { result ≡ lowest_of count set }
 {
     let mut chosen: u8 = 0;
-    let mut left = set;
-    for k in 0..count {
-        let first = sets::lowest(left);
-        let alone = sets::single(first);
-        chosen = sets::union(chosen, alone);
-        left = sets::minus(left, alone);
+    for first in sets::ascending(set).take(count as usize) {
+        chosen = sets::union(chosen, sets::single(first));
     }
     chosen
 }

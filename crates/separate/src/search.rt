@@ -3,16 +3,17 @@
 // down the search as it is, and is changed on the way back from the receiver only: so a try that
 // finds nothing leaves nothing to undo.
 ghost use Rattle.std.specs.Prelude.{◌≡◌, ◌<◌};
-ghost use Rattle.flow.specs.Search.{ahead, enter, leave, seek, flow_by};
+ghost use Rattle.flow.specs.Search.{ahead, enter, leave, seek, flow_by, sought_of};
 
 use crate::{changes, lowest, sides};
-use flow::{Flow, Sought};
+use flow::{Flow, Searched};
 
 // The allowance of a search: there are sixteen sides, and none is tried twice.
 const SIDES: u8 = 17;
 
 // The servers to whose entry side the leaving side of x leads: those linked from x that no route goes
 // to from x, and x itself if a route passes x.
+#[tactic(auto, unfolding(flow::specs::Search::ahead))]
 fn ahead(rows: &[u8; 8], inner: u8, flow: Flow, x: u8) -> u8
     requires { x < 8 }
     ensures { result ≡ ahead rows.now inner flow x }
@@ -35,24 +36,34 @@ fn enter(
     entered: u8,
     left: u8,
     x: u8,
-) -> Sought
+) -> Result<Searched, Searched>
     requires { x < 8 }
-    ensures { result ≡ enter allowance rows.now inner last flow entered left x }
+    ensures { sought_of result ≡ enter allowance rows.now inner last flow entered left x }
 {
     if allowance == 0 {
-        return changes::lost(flow, entered, left);
+        return Err(Searched {
+            flow,
+            entered,
+            left,
+        });
     }
     let seen = sets::union(entered, sets::single(x));
-    let q = sides::behind(flow, x);
-    if q < 8 {
-        if sets::member(left, q) {
-            return changes::lost(flow, seen, left);
+    if let Some(q) = sides::behind(flow, x) {
+        if !sets::member(left, q) {
+            let fewer = allowance - 1;
+            let found = leave(fewer, rows, inner, last, flow, seen, left, q)?;
+            let changed = changes::step_in(found.flow, x, q);
+            return Ok(Searched {
+                flow: changed,
+                ..found
+            });
         }
-        let fewer = allowance - 1;
-        let found = leave(fewer, rows, inner, last, flow, seen, left, q);
-        return changes::stepped_in(found, x, q);
     }
-    changes::lost(flow, seen, left)
+    Err(Searched {
+        flow,
+        entered: seen,
+        left,
+    })
 }
 
 // The search from the leaving side of x: to the receiver, or to the entry sides of the servers ahead
@@ -67,80 +78,102 @@ fn leave(
     entered: u8,
     left: u8,
     x: u8,
-) -> Sought
+) -> Result<Searched, Searched>
     requires { x < 8 }
-    ensures { result ≡ leave allowance rows.now inner last flow entered left x }
+    ensures { sought_of result ≡ leave allowance rows.now inner last flow entered left x }
 {
     if allowance == 0 {
-        return changes::lost(flow, entered, left);
+        return Err(Searched {
+            flow,
+            entered,
+            left,
+        });
     }
     let seen = sets::union(left, sets::single(x));
     if sets::member(sets::minus(last, flow.ends), x) {
-        return changes::ended(flow, entered, seen, x);
+        let ending = changes::with_end(flow, x);
+        return Ok(Searched {
+            flow: ending,
+            entered,
+            left: seen,
+        });
     }
     let fewer = allowance - 1;
     let choices = ahead(rows, inner, flow, x);
-    let mut tried = changes::lost(flow, entered, seen);
-    let mut y: u8 = 0;
-    while y < 8 {
-        if sets::member(sets::minus(choices, tried.entered), y) {
-            let found = enter(fewer, rows, inner, last, flow, tried.entered, tried.left, y);
-            let next = changes::stepped_out(found, x, y);
-            if next.found {
-                return next;
+    let mut tried = Searched {
+        flow,
+        entered,
+        left: seen,
+    };
+    for y in sets::ascending(choices) {
+        if !sets::member(tried.entered, y) {
+            match enter(fewer, rows, inner, last, flow, tried.entered, tried.left, y) {
+                Ok(found) => {
+                    let changed = changes::step_out(found.flow, x, y);
+                    return Ok(Searched {
+                        flow: changed,
+                        ..found
+                    });
+                }
+                Err(missed) => tried = missed,
             }
-            tried = next;
-            y += 1;
-        } else {
-            y += 1;
         }
     }
-    tried
+    Err(tried)
 }
 
 // The search from the entry sides of the sources in turn: the flow with one route more; or the flow
 // as it is, and the sides seen.
-fn seek(rows: &[u8; 8], inner: u8, last: u8, sources: u8, flow: Flow) -> Sought
-    ensures { result ≡ seek rows.now inner last sources flow }
+fn seek(rows: &[u8; 8], inner: u8, last: u8, sources: u8, flow: Flow) -> Result<Searched, Searched>
+    ensures { sought_of result ≡ seek rows.now inner last sources flow }
 {
-    let mut tried = changes::lost(flow, 0, 0);
-    let mut x: u8 = 0;
-    while x < 8 {
-        if sets::member(sets::minus(sources, tried.entered), x) {
-            let found = enter(SIDES, rows, inner, last, flow, tried.entered, tried.left, x);
-            let next = changes::started(found, x);
-            if next.found {
-                return next;
+    let mut tried = Searched {
+        flow,
+        entered: 0,
+        left: 0,
+    };
+    for x in sets::ascending(sources) {
+        if !sets::member(tried.entered, x) {
+            match enter(SIDES, rows, inner, last, flow, tried.entered, tried.left, x) {
+                Ok(found) => {
+                    let changed = changes::with_start(found.flow, x);
+                    return Ok(Searched {
+                        flow: changed,
+                        ..found
+                    });
+                }
+                Err(missed) => tried = missed,
             }
-            tried = next;
-            x += 1;
-        } else {
-            x += 1;
         }
     }
-    tried
+    Err(tried)
 }
 
 // `count` routes in `within` from the sources to the receiver, where `near` are the servers with a link
 // to it: straight from the lowest sources that are near, then one sought after the other; or the search
 // that did not find one more.
-pub fn flow_to(rows: &[u8; 8], near: u8, within: u8, sources: u8, receiver: u8, count: u8) -> Sought
-    ensures { result ≡ flow_by rows.now near within sources receiver count }
+pub fn flow_to(
+    rows: &[u8; 8],
+    near: u8,
+    within: u8,
+    sources: u8,
+    receiver: u8,
+    count: u8,
+) -> Result<Searched, Searched>
+    ensures { sought_of result ≡ flow_by rows.now near within sources receiver count }
 {
     let inner = sets::minus(within, sets::single(receiver));
     let last = sides::last_in(near, within, receiver);
     let starts = sets::meet(sources, inner);
     let first = lowest::lowest_of(sets::meet(starts, last), count);
     let laid = sets::size(first);
-    let mut sought = changes::straight(first);
-    for k in laid..count {
-        let flow = sought.flow;
-        let next = seek(rows, inner, last, starts, flow);
-        if next.found {
-            sought = next;
-        } else {
-            return next;
-        }
+    let mut sought = Searched {
+        flow: changes::straight(first),
+        entered: 0,
+        left: 0,
+    };
+    for _ in laid..count {
+        sought = seek(rows, inner, last, starts, sought.flow)?;
     }
-    sought
+    Ok(sought)
 }

@@ -7,6 +7,7 @@ ghost use Rattle.flow.specs.Routes.{trail};
 use flow::Flow;
 
 // The server that a route goes to from x; 8 if there is none.
+// Kept: `operand` promises the bytes of `trail`, which goes on from 8 where no server follows.
 fn following(flow: Flow, x: u8) -> u8
     ensures { result ≡ lowest (get_or flow.out x 0) }
 {
@@ -29,8 +30,7 @@ pub fn operand(flow: Flow, receiver: u8, start: u8) -> [u8; 8]
             route[i + 1] = receiver;
             return route;
         }
-        let next = following(flow, x);
-        x = next;
+        x = following(flow, x);
     }
     route[7] = receiver;
     route

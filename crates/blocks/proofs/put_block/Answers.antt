@@ -1,7 +1,7 @@
--- `blocks::put_block` meets its contract: the head, the routes of 12, those of 13 and the reports, one after the other, are the bytes of the block
--- (`block_put`). Assumes nothing.
+-- `blocks::put_block` meets its contract: the head, the routes of 12, those of 13 and the reports, one after the other. Assumes nothing.
+use Rattle.std.proofs.Common.{refl, rules}
 use Rattle.blocks.proofs.Texts.{block_put}
 use Rattle.blocks.proofs.put_block.Goals as goal
 
 pub returns : goal.returns
-returns c = search block_put
+returns c = block_put _ _ _ _ _ _ _ refl c.put_head.ensures c.put_mesh.ensures c.put_fans.ensures c.put_reports.ensures (search rules)

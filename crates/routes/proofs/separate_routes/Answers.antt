@@ -1,17 +1,12 @@
 -- `routes::separate_routes` meets its contract: the card reader gives the refusal, or a proper network, in which the routes are sought. Assumes nothing.
-use mathlib.Core.Path.{sym, ap, ◌∙◌}
-use Rattle.network.specs.Answers.{reading_of}
-use Rattle.network.proofs.Heads.{head_proper}
+use Rattle.std.proofs.lemmas.Result.{err_from_is_err_and}
 use Rattle.routes.proofs.Answering.{answered_refused, answered_network}
 use Rattle.routes.proofs.separate_routes.Goals as goal
 
-pub routes_in-requires : goal.routes_in-requires
-routes_in-requires c = let e = c.read_card-reading.ensures in
-    head_proper _ _ _ _ _ (sym e.reading ∙ ap reading_of c.in-Network.is) e.links
+pub returns-in_err-network : goal.returns-in_err-network
+returns-in_err-network c =
+    let p = err_from_is_err_and c.from_residual.result c.from_residual.ensures.1 in
+    rw (p.1, p.2) (answered_refused _ _ _ _ _ _ c.in_err-network.ensures)
 
-pub returns-in-Refused : goal.returns-in-Refused
-returns-in-Refused c = answered_refused _ _ _ _ _ _ (sym c.read_card-reading.ensures.reading ∙ ap reading_of c.in-Refused.is)
-
-pub returns-in-Network : goal.returns-in-Network
-returns-in-Network c = let e = c.read_card-reading.ensures in
-    answered_network _ _ _ _ _ _ _ _ _ (sym e.reading ∙ ap reading_of c.in-Network.is) e.links _ _ c.routes_in.ensures
+pub returns : goal.returns
+returns c = answered_network _ _ _ _ _ _ _ _ c.in_ok-network.ensures _ _ c.answer.ensures.answer c.answer.ensures.bytes

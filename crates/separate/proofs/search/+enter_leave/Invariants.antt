@@ -1,7 +1,6 @@
 -- `separate::search::enter` and `separate::search::leave` meet their contracts, by one induction: they call each other, and the allowance is the measure
--- of both. The invariant of the loop of `leave`: nothing is found so far, and what the rest of the servers give is what the whole gives. Assumes
--- nothing.
-use Rattle.std.proofs.Common.{◌-◌}
+-- of both. The invariant of the loop of `leave`: what the rest of the servers give is what the whole gives. Assumes nothing.
+use Rattle.sets.specs.Members.{members}
 use Rattle.separate.proofs.Ways.{TryingNext}
 use Rattle.separate.proofs.search.+enter_leave.Given as goal
 
@@ -12,7 +11,4 @@ abbrev pub decreases-leave : goal.decreases-leave
 decreases-leave l = l.allowance
 
 abbrev pub invariant-leave-loop-y : goal.invariant-leave-loop-y
-invariant-leave-loop-y l = TryingNext l.allowance l.fewer l.rows l.inner l.last l.flow l.entered l.left l.x l.choices l.y l.tried
-
-abbrev pub decreases-leave-loop-y : goal.decreases-leave-loop-y
-decreases-leave-loop-y l = 8 - l.y
+invariant-leave-loop-y l = TryingNext l.allowance l.fewer l.rows l.inner l.last l.flow l.entered l.left l.x (members l.y-iterator.left) l.tried

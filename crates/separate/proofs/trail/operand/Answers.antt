@@ -9,7 +9,7 @@ pub returns-then-member : goal.returns-then-member
 returns-then-member c = laying_ends _ _ _ _ _ _ c.loop-i.invariant.1 (omega arith) _ c.member.ensures c.if-member.true
 
 pub loop-i-preserved : goal.loop-i-preserved
-loop-i-preserved c = (omega arith, laying_goes _ _ _ _ _ _ c.loop-i.invariant.1 (omega arith) _ c.member.ensures c.if-member.false _ c.following-next.ensures)
+loop-i-preserved c = (omega arith, laying_goes _ _ _ _ _ _ c.loop-i.invariant.1 (omega arith) _ c.member.ensures c.if-member.false _ c.following-x.ensures)
 
 pub returns : goal.returns
 returns c = laying_full _ _ _ _ _ _ c.loop-i.invariant.1 (omega arith)
