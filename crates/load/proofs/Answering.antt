@@ -5,20 +5,18 @@
 use mathlib.Core.Path.{◌≡◌, refl, sym, ap, ◌∙◌}
 use mathlib.Core.List.{List, []}
 use Prim.Native.Nat.{ℕ}
+use Rattle.std.specs.Prelude.{Ok, Err}
 use Rattle.refusal.specs.Refused.{Refused, refusal_of}
 use Rattle.refusal.specs.declared.Refusal.{Refusal}
 use Rattle.network.specs.Card.{Network, network, refused, read_card}
 use Rattle.plan.specs.Check.{Totals, totals, check_plan}
 use Rattle.plan.specs.Check as Check
-use Rattle.plan.specs.Answers.{checked_of}
-use Rattle.plan.specs.declared.check.Checked.{Checked}
 use Rattle.rules.specs.Theorems.{Accepted}
 use Rattle.rules.proofs.Progress.{turned_totals}
 use Rattle.load.specs.Load.{added, Load, counted, turned, load_call}
 use Rattle.load.specs.Places.{places_in}
 use Rattle.load.specs.Tally.{Tallies}
-use Rattle.load.specs.Answers.{loaded_of, Answered}
-use Rattle.load.specs.declared.Loaded.{Loaded}
+use Rattle.load.specs.Answers.{Answered}
 use Rattle.load.proofs.Main.{card_refused, turned_counted, load_added, tallied}
 
 module _ (card plan lent : List ℕ) where
@@ -48,17 +46,12 @@ module _ (card plan lent : List ℕ) where
           let same = tallied card plan n f links e a after t in
           (rw (e, h, same) refl, ap added same ∙ load_added card plan n f links e a)
 
-  module _ (checked : Checked) (c : checked_of checked ≡ check_plan card plan) where
-    pub answer_refused : (r : Refusal) → checked ≡ Checked.Refused r → Answered card plan lent (Loaded.Refused r) lent
-    answer_refused r e =
-        let is = turned_is (refusal_of r) (sym c ∙ ap checked_of e) in
-        record {
-          answer = sym is;
-          counts = rw is refl;
-          sum = λ q. turned_counted (refusal_of r) lent (ap (λ (x : Loaded). loaded_of x lent) q);
-        }
+  pub answer_refused : (r : Refusal) → Check.turned (refusal_of r) ≡ check_plan card plan → Answered card plan lent (Err r) lent
+  answer_refused r e =
+      let is = turned_is (refusal_of r) (sym e) in
+      record { answer = sym is; counts = rw is refl; sum = λ q. turned_counted (refusal_of r) lent q }
 
-    pub answer_counted : (blocks carriages : ℕ) → checked ≡ Checked.Accepted blocks carriages → (after : List ℕ) → Tallies plan after → Answered card plan lent Loaded.Counted after
-    answer_counted blocks carriages e after t =
-        let (is, sum) = counted_is blocks carriages (sym c ∙ ap checked_of e) after t in
-        record { answer = sym is; counts = rw is refl; sum = λ q. sum }
+  pub answer_counted : (blocks carriages : ℕ) → totals blocks carriages ≡ check_plan card plan → (after : List ℕ) → Tallies plan after → {x : Unit {0}} → Answered card plan lent (Ok x) after
+  answer_counted blocks carriages e after t =
+      let (is, sum) = counted_is blocks carriages (sym e) after t in
+      record { answer = sym is; counts = rw is refl; sum = λ q. sum }

@@ -8,26 +8,14 @@ ghost use Rattle.load.specs.Tally.{between, Room, Adds, Tallies};
 ghost use Rattle.load.specs.Answers.{Answered};
 
 use plan::check;
-use plan::check::Checked;
 use refusal::Refusal;
 use route::command;
-
-#[derive(Drop)]
-pub enum Loaded {
-    // The counts of servers 0 to 7 are in the lent array.
-    Counted,
-    // The card or the plan is refused.
-    Refused(Refusal),
-}
 
 // A command with a route: 11, 12 or 13.
 fn has_route(command: u8) -> bool
     ensures { result ≡ has_route command }
 {
-    if command < 17 {
-        return false;
-    }
-    command < 20
+    17 <= command && command < 20
 }
 
 // One more for the server; a byte past the eighth server is none. A count has room for one more.
@@ -77,18 +65,13 @@ fn count_relays(plan: &[u8]) -> [usize; 8]
     counts
 }
 
-// The load: the counts into the lent array, or the one refusal, the card's first, with the array as
-// it was.
-pub fn load(card: &[u8], plan: &[u8], counts: &mut [usize; 8]) -> Loaded
+// The load: the counts of servers 0 to 7 into the lent array; or the one refusal, the card's first,
+// with the array as it was.
+pub fn load(card: &[u8], plan: &[u8], counts: &mut [usize; 8]) -> Result<(), Refusal>
     ensures { Answered card.now plan.now counts.old result counts.new }
 {
-    let checked = check::check_plan(card, plan);
-    match checked {
-        Checked::Refused(r) => Loaded::Refused(r),
-        Checked::Accepted { blocks, carriages } => {
-            let found = count_relays(plan);
-            *counts = found;
-            Loaded::Counted
-        }
-    }
+    check::check_plan(card, plan)?;
+    let found = count_relays(plan);
+    *counts = found;
+    Ok(())
 }

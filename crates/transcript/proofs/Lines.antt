@@ -5,7 +5,7 @@
 --     Served, served-..       the lines of the servers: those before i are put
 --     placed_put, called_put  the line of a refusal; of_card, of_plan, of_call whatever its ground
 --     run_lines, answer-..     the lines of a run
---     card_few, files-..      the lines of three files
+--     files-..                the lines of three files
 --     long_put, short_put     all that is printed
 -- Assumes nothing.
 use mathlib.Core.Path.{◌≡◌, refl, sym, ap, ◌∙◌}
@@ -15,7 +15,7 @@ use Prim.Native.Nat.{ℕ, zero, suc, ◌+◌, ◌*◌, ◌≤◌, ◌<◌}
 use native.Mathlib.Omega.{arith}
 use native.Mathlib.Numerals.{add-one}
 use native.Mathlib.Nat.{add-zero, add-suc, suc-add}
-use lib.Dec.{eqb}
+use Rattle.std.specs.Prelude.{Result, Ok, Err}
 use lib.ListN.{get_or, replicate}
 use Rattle.sets.specs.Sets.{has}
 use Rattle.refusal.specs.Refused.{Refused, call, refusal_of, card_refusal, plan_refusal, call_refusal, number_of, place_of}
@@ -23,13 +23,12 @@ use Rattle.refusal.specs.declared.Refusal.{Refusal}
 use Rattle.refusal.specs.declared.CardGround.{CardGround}
 use Rattle.refusal.specs.declared.PlanGround.{PlanGround}
 use Rattle.refusal.specs.declared.CallGround.{CallGround}
-use Rattle.network.specs.Card.{read_card, head, head_of, links_of}
-use Rattle.network.specs.Card as Card
-use Rattle.network.proofs.Heads.{network_of, refused_of}
-use Rattle.network.proofs.Main.{card_proper}
+use Rattle.network.specs.Links.{Links}
+use Rattle.network.specs.Card.{network, refused, read_card}
+use Rattle.plan.specs.Answers.{checked_of}
+use Rattle.plan.specs.declared.check.Totals as Checked
 use Rattle.steps.specs.Run.{run_plan, lent_after}
-use Rattle.run.specs.Answers.{Answered, ran_of}
-use Rattle.run.specs.declared.call.Ran.{Ran}
+use Rattle.run.specs.Answers.{Answered}
 use Rattle.transcript.specs.Text.{too_long, blocks_word, carriages_word, server_word, decided_word, faulty_word, refused_word, card_word, plan_word, call_word, gap, newline, decimal, totals_line, decided_line, decided_lines, refused_line, placed_line, faulty_of, inputs_of, table_of, answer_lines, files_lines, is_long, transcript, Put}
 use Rattle.transcript.proofs.Laying.{put_none, put_join, put_most}
 
@@ -131,39 +130,35 @@ run_lines card_bytes plan_bytes runIn n lent =
     let X = faulty_of runIn in
     answer_lines n X (run_plan card_bytes plan_bytes inputs X lent) (lent_after card_bytes plan_bytes inputs X (table_of n runIn) lent)
 
-module _ (card_bytes plan_bytes runIn : List ℕ) (n : ℕ) {X : ℕ} {inputs table lent after : List ℕ} {r : Ran} (e : X ≡ faulty_of runIn) (f : inputs ≡ inputs_of n runIn) (g : table ≡ table_of n runIn) (a : Answered card_bytes plan_bytes inputs X table lent r after) where
-  answered : run_plan card_bytes plan_bytes (inputs_of n runIn) (faulty_of runIn) lent ≡ ran_of r
+module _ (card_bytes plan_bytes runIn : List ℕ) (n : ℕ) {X : ℕ} {inputs table lent after : List ℕ} {r : Result Checked.Totals Refusal} (e : X ≡ faulty_of runIn) (f : inputs ≡ inputs_of n runIn) (g : table ≡ table_of n runIn) (a : Answered card_bytes plan_bytes inputs X table lent r after) where
+  answered : run_plan card_bytes plan_bytes (inputs_of n runIn) (faulty_of runIn) lent ≡ checked_of r
   answered = rw (← e, ← f) (sym a.answer)
 
   stored : lent_after card_bytes plan_bytes (inputs_of n runIn) (faulty_of runIn) (table_of n runIn) lent ≡ after
   stored = rw (← e, ← f, ← g) (sym a.bytes)
 
-  pub answer_refused : (u : Refusal) → r ≡ Ran.Refused u → {at : ℕ} {x z : List ℕ} {q : ℕ} → Put at (refused_line (refusal_of u)) 100 x z q
+  pub answer_refused : (u : Refusal) → r ≡ Err u → {at : ℕ} {x z : List ℕ} {q : ℕ} → Put at (refused_line (refusal_of u)) 100 x z q
       → Put at (run_lines card_bytes plan_bytes runIn n lent) 1000 x z q
   unfolding answer_lines
   answer_refused u h {at} {x} {z} {q} p = rw (answered, h) (put_most 1000 p (omega arith))
 
-  pub answer_lines_lem : (blocks carriages : ℕ) → r ≡ Ran.Answered blocks carriages → {at : ℕ} {x y z : List ℕ} {i q : ℕ} → Put at (totals_line blocks carriages) 100 x y i → Put i (decided_lines X after n 0) 800 y z q
+  pub answer_lines_lem : (t : Checked.Totals) → r ≡ Ok t → {at : ℕ} {x y z : List ℕ} {i q : ℕ} → Put at (totals_line t.blocks t.carriages) 100 x y i → Put i (decided_lines X after n 0) 800 y z q
       → Put at (run_lines card_bytes plan_bytes runIn n lent) 1000 x z q
   unfolding answer_lines
-  answer_lines_lem blocks carriages h {at} {x} {y} {z} {i} {q} p s = rw (answered, h, stored) (put_most 1000 (put_join p (rw e at s)) (omega arith))
+  answer_lines_lem t h {at} {x} {y} {z} {i} {q} p s = rw (answered, h, stored) (put_most 1000 (put_join p (rw e at s)) (omega arith))
 
 -- the lines of three files
 
-module _ (card_bytes : List ℕ) where
-  pub card_few : (n f : ℕ) → head n f ≡ head_of (read_card card_bytes) → n ≤ 8
-  card_few n f e = (card_proper card_bytes n f (links_of (read_card card_bytes)) (network_of (read_card card_bytes) n f (sym e))).most
+module _ (card_bytes plan_bytes runIn : List ℕ) {at : ℕ} {x z : List ℕ} {q : ℕ} where
+  pub files_refused : (r : Refused) → refused r ≡ read_card card_bytes → Put at (refused_line r) 100 x z q → Put at (files_lines (read_card card_bytes) card_bytes plan_bytes runIn) 1000 x z q
+  unfolding files_lines
+  files_refused r e p = rw (← e) (put_most 1000 p (omega arith))
 
-  module _ (plan_bytes runIn : List ℕ) {at : ℕ} {x z : List ℕ} {q : ℕ} where
-    pub files_refused : (r : Refused) → Card.turned r ≡ head_of (read_card card_bytes) → Put at (refused_line r) 100 x z q → Put at (files_lines (read_card card_bytes) card_bytes plan_bytes runIn) 1000 x z q
-    unfolding files_lines
-    files_refused r e p = rw (refused_of (read_card card_bytes) r (sym e)) (put_most 1000 p (omega arith))
-
-    pub files_run : (n f : ℕ) → head n f ≡ head_of (read_card card_bytes)
-        → Put at (run_lines card_bytes plan_bytes runIn n (replicate 8 0)) 1000 x z q
-        → Put at (files_lines (read_card card_bytes) card_bytes plan_bytes runIn) 1000 x z q
-    unfolding files_lines
-    files_run n f e p = rw (network_of (read_card card_bytes) n f (sym e)) p
+  pub files_run : (n f : ℕ) (links : Links) → network n f links ≡ read_card card_bytes
+      → Put at (run_lines card_bytes plan_bytes runIn n (replicate 8 0)) 1000 x z q
+      → Put at (files_lines (read_card card_bytes) card_bytes plan_bytes runIn) 1000 x z q
+  unfolding files_lines
+  files_run n f links e p = rw (← e) p
 
 -- all that is printed
 

@@ -11,11 +11,10 @@ ghost use Rattle.steps.specs.Run.{run_plan, lent_after};
 ghost use Rattle.transcript.specs.Text.{faulty_word, decimal, totals_line, decided_line, decided_lines, refused_line, placed_line, faulty_of, inputs_of, table_of, answer_lines, files_lines, is_long, transcript, Put};
 
 use crate::text::Text;
-use network::card;
-use network::card::Reading;
+use network::Network;
+use plan::check::Totals;
 use refusal::Refusal;
 use run::call;
-use run::call::Ran;
 
 // The faulty set of run.in: its first byte.
 pub fn faulty_of(run_in: &[u8]) -> u8
@@ -64,15 +63,15 @@ fn any_long(card: &[u8], plan: &[u8], run_in: &[u8]) -> bool
 }
 
 impl<'a> Text<'a> {
-    fn put_totals(&mut self, blocks: usize, carriages: usize)
+    fn put_totals(&mut self, totals: Totals)
         requires { self.old.at ≤ 1000 }
-        ensures put { Put self.old.at (totals_line blocks carriages) 100 self.old.out.now self.new.out.now self.new.at }
+        ensures put { Put self.old.at (totals_line totals.blocks totals.carriages) 100 self.old.out.now self.new.out.now self.new.at }
         ensures same { self.new.out.ghost_name ≡ self.old.out.ghost_name }
     {
         self.put(b"blocks ");
-        self.put_number(blocks);
+        self.put_number(totals.blocks);
         self.put(b" carriages ");
-        self.put_number(carriages);
+        self.put_number(totals.carriages);
         self.put(b"\n");
     }
 
@@ -132,8 +131,8 @@ impl<'a> Text<'a> {
         ensures put { Put self.old.at (refused_line (refusal_of r)) 100 self.old.out.now self.new.out.now self.new.at }
         ensures same { self.new.out.ghost_name ≡ self.old.out.ghost_name }
     {
-        let number = refusal::number(r);
-        let place = refusal::place(r);
+        let number = r.number();
+        let place = r.place();
         match r {
             Refusal::Card(_) => self.put_placed(b"card ", number, place),
             Refusal::Plan(_) => self.put_placed(b"plan ", number, place),
@@ -156,9 +155,9 @@ impl<'a> Text<'a> {
         let table = table_of(n, run_in);
         let mut decided = [0u8; 8];
         match call::run(card, plan, inputs, faulty, table, &mut decided) {
-            Ran::Refused(r) => self.put_refusal(r),
-            Ran::Answered { blocks, carriages } => {
-                self.put_totals(blocks, carriages);
+            Err(r) => self.put_refusal(r),
+            Ok(totals) => {
+                self.put_totals(totals);
                 self.put_servers(n, faulty, &decided);
             }
         }
@@ -170,10 +169,9 @@ impl<'a> Text<'a> {
         ensures put { Put self.old.at (files_lines (read_card card.now) card.now plan.now run_in.now) 1000 self.old.out.now self.new.out.now self.new.at }
         ensures same { self.new.out.ghost_name ≡ self.old.out.ghost_name }
     {
-        let mut links = [[false; 8]; 8];
-        match card::read_card(card, &mut links) {
-            Reading::Refused(r) => self.put_refusal(r),
-            Reading::Network { n, f: _ } => self.put_run(card, plan, run_in, n),
+        match Network::read(card) {
+            Err(r) => self.put_refusal(r),
+            Ok(network) => self.put_run(card, plan, run_in, network.n),
         }
     }
 
