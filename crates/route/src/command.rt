@@ -3,28 +3,17 @@ ghost use Rattle.std.specs.Prelude.{◌≡◌};
 ghost use Rattle.route.specs.Commands.{width, is_cut};
 
 // How many bytes the command takes with its operands; 0 for a command that is none of a plan's.
+#[tactic(auto, unfolding(crate::specs::Commands::width))]
 pub fn width(command: u8) -> usize
     ensures { result ≡ width command }
 {
-    if command == 16 {
-        return 4;
+    match command {
+        16 => 4,
+        17 | 18 | 19 => 9,
+        20 => 3,
+        21 => 1,
+        _ => 0,
     }
-    if command == 17 {
-        return 9;
-    }
-    if command == 18 {
-        return 9;
-    }
-    if command == 19 {
-        return 9;
-    }
-    if command == 20 {
-        return 3;
-    }
-    if command == 21 {
-        return 1;
-    }
-    0
 }
 
 // At this place there is no command, an unknown one, or one whose operands are cut off.
@@ -33,10 +22,7 @@ pub fn is_cut(plan: &[u8], at: usize) -> bool
 {
     if at < plan.len() {
         let bytes = width(plan[at]);
-        if bytes == 0 {
-            return true;
-        }
-        return plan.len() - at < bytes;
+        return bytes == 0 || plan.len() - at < bytes;
     }
     true
 }

@@ -4,7 +4,7 @@
 
 pub mod command;
 
-ghost use Rattle.std.specs.Prelude.{◌≡◌, cond, ◌+◌, ◌*◌, ◌≤◌, eqb, length, take};
+ghost use Rattle.std.specs.Prelude.{◌≡◌, ◌==◌, position, cond, ◌+◌, ◌*◌, ◌≤◌, eqb, length, take};
 ghost use Rattle.sets.specs.Sets.{minus};
 ghost use Rattle.network.specs.Rows.{links_of};
 ghost use Rattle.route.specs.Route.{path, checked_route, route_set};
@@ -33,9 +33,10 @@ fn ended(sound: u8, free: u8, last: u8, receiver: u8) -> u8
     ensures { result ≡ cond (eqb last receiver) (minus sound free) 0 }
 {
     if last == receiver {
-        return sets::minus(sound, free);
+        sets::minus(sound, free)
+    } else {
+        0
     }
-    0
 }
 
 // The set of the servers on the route that the operand starts with; empty where the route breaks a
@@ -52,8 +53,7 @@ pub fn check_route(sound: u8, rows: &[u8; 8], sources: u8, receiver: u8, operand
     if sets::member(sets::meet(sound, sources), last) {
         let mut free = sets::minus(sound, sets::single(last));
         let mut left = lacking(operand) / 256;
-        for k in 1..8usize {
-            let server = operand[k];
+        for &server in &operand[1..8] {
             let linked = rows[last as usize];
             if sets::member(sets::meet(free, linked), server) {
                 free = sets::minus(free, sets::single(server));
@@ -72,17 +72,19 @@ pub fn check_route(sound: u8, rows: &[u8; 8], sources: u8, receiver: u8, operand
     0
 }
 
+// The place of the first byte of fill.
+fn fill_at(bytes: &[u8]) -> Option<usize>
+    ensures { result ≡ position (λ b. b == 255) bytes.now }
+{
+    bytes.iter().position(|b| *b == 255)
+}
+
 // How many of the eight bytes stand before the fill, which starts at the first FF.
 fn path_length(operand: &[u8]) -> usize
     requires { 8 ≤ length operand.now }
     ensures { (result ≡ length (path (take 8 operand.now))) × (result ≤ 8) }
 {
-    for k in 0..8usize {
-        if operand[k] == 255 {
-            return k;
-        }
-    }
-    8
+    fill_at(&operand[..8]).unwrap_or(8)
 }
 
 // The servers of the route that the operand starts with, as that part of the caller's plan with
