@@ -2,6 +2,7 @@
 --     part_next      the part of the operand from k on starts with byte k
 --     tail-..         the bytes after the first
 --     path_length    how many servers stand before the fill
+--     Passed, path_stops, ..   the same a byte at a time, for a walk along a route
 --     path_part      the path is the part of the operand before the fill
 -- Assumes nothing.
 use mathlib.Core.Path.{◌≡◌, refl, sym, ap, ◌∙◌}
@@ -12,7 +13,7 @@ use native.Mathlib.Omega.{arith}
 use lib.ListN.{length, get_or, take, drop, drop_of_length-le, length-drop}
 use lib.Seq.{drop-cons, get_or-drop, get_or-take, length-take-le}
 use lib.Dec.{eqb, ltb}
-use borrow.Author.Tests.{ltb-false}
+use borrow.Author.Tests.{ltb-false, eq-eqb, ne_eqb}
 use Rattle.std.specs.Prelude.{◌==◌}
 use Rattle.std.specs.List.{position, position_or_len}
 use Rattle.std.specs.Option.{unwrap_or}
@@ -53,6 +54,31 @@ path_length l n q =
     let f = path_few l in
     let e = path_counted l in
     (by_cond (λ o. unwrap_or o n ≡ length (path l)) (ltb (position_or_len (λ (b : ℕ). eqb b 255) l) (length l)) _ _ (λ t. sym e) (λ t. let g = ltb-false _ _ t in omega arith), omega arith)
+
+-- how many servers stand before the fill, a byte at a time, as a walk along the route goes
+module _ (s : List ℕ) (fits : 8 ≤ length s) where
+  -- k servers are passed
+  abbrev pub Passed : ℕ → Type 0
+  Passed k = k + length (path (drop k (take 8 s))) ≡ length (path (take 8 s))
+
+  module _ (k : ℕ) (h : k < 8) (so : Passed k) where
+    pub path_stops : get_or s k 0 ≡ 255 → k ≡ length (path (take 8 s))
+    unfolding path
+    path_stops e =
+        let p : length (path (drop k (take 8 s))) ≡ 0 = rw (part_next 8 s fits k h) (simp (eq-eqb _ _ e)) in
+        omega arith
+
+    pub path_passes : (get_or s k 0 ≡ 255 → ⊥) → Passed (k + 1)
+    unfolding path
+    path_passes o =
+        let p : length (path (drop k (take 8 s))) ≡ suc (length (path (drop (k + 1) (take 8 s)))) = rw (part_next 8 s fits k h) (simp (ne_eqb _ _ o)) in
+        omega arith
+
+  pub path_ends : (k : ℕ) → 8 ≤ k → k ≤ 8 → Passed k → 8 ≡ length (path (take 8 s))
+  unfolding path
+  path_ends k h g so =
+      let p : length (path (drop k (take 8 s))) ≡ 0 = rw (part_over 8 s fits k h) refl in
+      omega arith
 
 -- the path is the part of the operand before the fill
 pub path_part : (l : List ℕ) → path l ≡ take (length (path l)) l
