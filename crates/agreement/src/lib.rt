@@ -11,7 +11,6 @@ ghost use Rattle.agreement.specs.Words.{PrintWords, QuickWords, PlanWords, Write
 ghost use Rattle.agreement.specs.Version.{version};
 
 use network::card;
-use network::card::Reading;
 use plan::check;
 use run::call;
 use server::turn;
@@ -30,14 +29,13 @@ pub fn agreement_read_card(card: &[u8], answer: &mut [u64; 12])
     ensures { answer.new ≡ card_words (read_card card.now) }
 {
     let mut links = [[false; 8]; 8];
-    let reading = card::read_card(card, &mut links);
     // Each arm fills the answer: with one row for both, the reader's loop is slower.
-    match reading {
-        Reading::Network { n, f } => {
-            let words = words::network_words(n, f, links);
+    match card::read_card(card, &mut links) {
+        Ok(head) => {
+            let words = words::network_words(head.n, head.f, links);
             *answer = words;
         }
-        Reading::Refused(r) => {
+        Err(r) => {
             let words = words::unread_words(r);
             *answer = words;
         }
@@ -112,7 +110,7 @@ pub fn agreement_check_plan(card: &[u8], plan: &[u8], answer: &mut [u64; 4])
     ensures { PlanWords card.now plan.now answer.new }
 {
     let checked = check::check_plan(card, plan);
-    let words = words::checked_words(checked);
+    let words = words::totals_words(checked);
     *answer = words;
 }
 
@@ -142,7 +140,7 @@ pub fn agreement_run(
     ensures { RunWords card.now plan.now inputs.now faulty table.now lent.old lent.new answer.new }
 {
     let ran = call::run(card, plan, inputs, faulty, table, &mut *lent);
-    let words = words::ran_words(ran);
+    let words = words::totals_words(ran);
     *answer = words;
 }
 
@@ -151,9 +149,8 @@ pub fn agreement_run(
 pub fn agreement_start(card: &[u8], plan: &[u8], server: u8, input: u8, answer: &mut [u64; 6])
     ensures { answer.new ≡ stepped_words (start_call card.now plan.now server input) }
 {
-    let stepped = turn::start(card, plan, server, input);
-    let outcome = stepped.outcome;
-    let words = words::state_words(outcome, stepped.state);
+    let started = turn::start(card, plan, server, input);
+    let words = words::started_words(started);
     *answer = words;
 }
 
@@ -171,9 +168,9 @@ pub fn agreement_ask(
 )
     ensures { AskWords card.now plan.now server state.now lent.old lent.new answer.new }
 {
-    let asked = turn::ask(card, plan, server, words::state_from(state), &mut *lent);
-    let outcome = asked.outcome;
-    let words = words::asked_words(outcome, asked.state, asked.values);
+    let mut own = words::state_from(state);
+    let asked = turn::ask(card, plan, server, &mut own, &mut *lent);
+    let words = words::asked_words(asked, own);
     *answer = words;
 }
 
@@ -190,8 +187,8 @@ pub fn agreement_commit(
 )
     ensures { answer.new ≡ stepped_words (commit_call card.now plan.now server (state_from state.now) arrived.now) }
 {
-    let stepped = turn::commit(card, plan, server, words::state_from(state), arrived);
-    let outcome = stepped.outcome;
-    let words = words::state_words(outcome, stepped.state);
+    let mut own = words::state_from(state);
+    let committed = turn::commit(card, plan, server, &mut own, arrived);
+    let words = words::state_words(committed, own);
     *answer = words;
 }

@@ -79,7 +79,7 @@ pub fn network_words(n: u8, f: u8, links: [[bool; 8]; 8]) -> [u64; 12]
 pub fn unread_words(r: Refusal) -> [u64; 12]
     ensures { result ≡ card_words (refused (refusal_of r)) }
 {
-    padded(r)
+    padded::<12>(r)
 }
 
 // The printer's answer: 0, the number of bytes, 0, 0; or the refusal.
@@ -102,7 +102,7 @@ pub fn written_words(written: Result<usize, Unwritten>) -> [u64; 8]
         Err(Unwritten::Split(Split { f, l, c, r })) => {
             [2, 2, 17, 0, f as u64, l as u64, c as u64, r as u64]
         }
-        Err(Unwritten::Refused(r)) => padded(r),
+        Err(Unwritten::Refused(r)) => padded::<8>(r),
     }
 }
 
@@ -128,7 +128,7 @@ pub fn split_words(tested: Result<Option<Split>, Refusal>) -> [u64; 5]
     match tested {
         Ok(None) => [0; 5],
         Ok(Some(Split { f, l, c, r })) => [1, f as u64, l as u64, c as u64, r as u64],
-        Err(r) => padded(r),
+        Err(r) => padded::<5>(r),
     }
 }
 
@@ -170,7 +170,7 @@ pub fn loaded_words(loaded: Result<(), Refusal>, counts: [usize; 8]) -> [u64; 9]
             counts[6] as u64,
             counts[7] as u64,
         ],
-        Err(r) => padded(r),
+        Err(r) => padded::<9>(r),
     }
 }
 
@@ -194,7 +194,7 @@ pub fn started_words(started: Result<State, Refusal>) -> [u64; 6]
 {
     match started {
         Ok(state) => [0, state.block, state.kind, state.v, state.t, state.asked],
-        Err(r) => padded(r),
+        Err(r) => padded::<6>(r),
     }
 }
 
@@ -204,7 +204,7 @@ pub fn state_words(outcome: Result<(), Refusal>, state: State) -> [u64; 6]
 {
     match outcome {
         Ok(()) => [0, state.block, state.kind, state.v, state.t, state.asked],
-        Err(r) => padded(r),
+        Err(r) => padded::<6>(r),
     }
 }
 
@@ -222,6 +222,6 @@ pub fn asked_words(asked: Result<usize, Refusal>, state: State) -> [u64; 7]
             state.asked,
             values as u64,
         ],
-        Err(r) => padded(r),
+        Err(r) => padded::<7>(r),
     }
 }

@@ -7,4 +7,4 @@ use Rattle.agreement.proofs.Rows.{plan_words_lem}
 use Rattle.agreement.proofs.agreement_check_plan.Goals as goal
 
 pub returns : goal.returns
-returns c = plan_words_lem _ _ _ (c.checked_words-words.ensures ∙ ap plan_words c.check_plan-checked.ensures)
+returns c = plan_words_lem _ _ _ (c.totals_words-words.ensures ∙ ap plan_words c.check_plan-checked.ensures)
