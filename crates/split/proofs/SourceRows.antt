@@ -22,7 +22,7 @@ use Rattle.sets.proofs.Members.{has_union, has_single, single_is, has_empty, has
 use Rattle.network.specs.Links.{Links, linked_in}
 use Rattle.network.specs.Proper.{Proper}
 use Rattle.split.specs.Split.{some_below}
-use Rattle.split.specs.Sources.{sources_to, SourceRows, SourcesOf, Sources, row_if, into_half, HalfTable, into_rows}
+use Rattle.split.specs.Sources.{sources_to, SourceRows, SourcesOf, Sources, row_if, into_half, HalfTable, into_of, into_rows}
 use Rattle.split.proofs.Neighbours.{some_below_same, none_of}
 
 pub some_below_beyond : (n k : ℕ) (p : Set) → ((i : ℕ) → n ≤ i → p i ≡ false) → some_below (k + n) p ≡ some_below n p
@@ -217,6 +217,6 @@ module _ (n : ℕ) (links : Links) (rows : List ℕ) (few : n ≤ 8) (so : Sourc
 
 -- into, by the two tables
 
-pub tables_give : (rows lower upper : List ℕ) → HalfTable rows 0 lower → HalfTable rows 4 upper → (s : ℕ) → s < 256 → union (get_or upper (s / 16) 0) (get_or lower (s % 16) 0) ≡ into_rows rows s
-unfolding into_rows
+pub tables_give : (rows lower upper : List ℕ) → HalfTable rows 0 lower → HalfTable rows 4 upper → (s : ℕ) → s < 256 → into_of lower upper s ≡ into_rows rows s
+unfolding into_of into_rows
 tables_give rows lower upper low high s h = ap₂ union (high (s / 16) (omega arith)) (low (s % 16) (omega arith))

@@ -3,6 +3,7 @@
 --     SourceRows links rows      <-> rows has these for each of the eight servers
 --     into_half rows first x      == the servers in the rows of the members of x, which are counted from `first` on
 --     HalfTable rows first table <-> the table has these for each set of four servers
+--     into_of lower upper s       == what the two tables give for s
 --     into_rows rows s            == the servers with a link into s
 --     outside_rows rows F s       == how many of them are neither in s nor in F
 use Rattle.std.specs.Prelude.{◌≡◌, cond, ◌&&◌, List, ℕ, ◌+◌, ◌/◌, ◌%◌, ◌<◌, get_or, ltb}
@@ -24,6 +25,9 @@ into_half rows first x = union (row_if rows first x 3) (union (row_if rows first
 
 abbrev pub HalfTable : List ℕ → ℕ → List ℕ → Type 0
 HalfTable rows first table = (x : ℕ) → x < 16 → get_or table x 0 ≡ into_half rows first x
+
+unfoldable pub into_of : List ℕ → List ℕ → ℕ → ℕ
+into_of lower upper s = union (get_or upper (s / 16) 0) (get_or lower (s % 16) 0)
 
 -- the servers with a link into s
 unfoldable pub into_rows : List ℕ → ℕ → ℕ

@@ -2,7 +2,7 @@
 // the upper four, so that a scan over many sets looks it up.
 ghost use Rattle.std.specs.Prelude.{◌≡◌, cond, ◌≤◌, ◌<◌, leb};
 ghost use Rattle.sets.specs.Sets.{has};
-ghost use Rattle.split.specs.Sources.{sources_to, SourceRows, into_half, HalfTable, into_rows, outside_rows};
+ghost use Rattle.split.specs.Sources.{sources_to, SourceRows, into_half, HalfTable, into_of, into_rows, outside_rows};
 
 // The servers with a link to v.
 fn source_row(links: &[[bool; 8]; 8], v: usize) -> u8
@@ -66,6 +66,29 @@ fn half_table(rows: [u8; 8], first: usize) -> [u8; 16]
     table
 }
 
+// The servers with a link into the sets of the lower four servers.
+pub fn lower_table(rows: [u8; 8]) -> [u8; 16]
+    ensures { HalfTable rows 0 result }
+{
+    half_table(rows, 0)
+}
+
+// The servers with a link into the sets of the upper four servers.
+pub fn upper_table(rows: [u8; 8]) -> [u8; 16]
+    ensures { HalfTable rows 4 result }
+{
+    half_table(rows, 4)
+}
+
+// The servers with a link into s, by the two tables.
+pub fn into(lower: &[u8; 16], upper: &[u8; 16], s: u8) -> u8
+    ensures { result ≡ into_of lower.now upper.now s }
+{
+    let low = (s % 16) as usize;
+    let high = (s / 16) as usize;
+    sets::union(upper[high], lower[low])
+}
+
 // The sources of a network's servers.
 #[derive(Clone, Copy, Drop)]
 pub struct Sources {
@@ -83,18 +106,16 @@ impl Sources {
         ensures { SourceRows links result.rows }
     {
         let rows = source_rows(links);
-        let lower = half_table(rows, 0);
-        let upper = half_table(rows, 4);
+        let lower = lower_table(rows);
+        let upper = upper_table(rows);
         Sources { rows, lower, upper }
     }
 
-    // The servers with a link into s, by the two tables.
+    // The servers with a link into s.
     pub fn linked_into(&self, s: u8) -> u8
         ensures { result ≡ into_rows self.now.rows s }
     {
-        let low = (s % 16) as usize;
-        let high = (s / 16) as usize;
-        sets::union(self.upper[high], self.lower[low])
+        into(&self.lower, &self.upper, s)
     }
 
     // The set s has at most f incoming neighbours outside F: then it can be a side of a bad split,

@@ -4,4 +4,4 @@ use Rattle.split.proofs.SourceRows.{tables_give}
 use Rattle.split.proofs.sources.Sources.linked_into.Goals as goal
 
 pub returns : goal.returns
-returns c = let own = c.args.self.now in c.union.ensures ∙ tables_give own.rows own.lower own.upper own.low own.high c.args.s c.ranges.s.fits
+returns c = let own = c.args.self.now in c.into.ensures ∙ tables_give own.rows own.lower own.upper own.low own.high c.args.s c.ranges.s.fits
