@@ -51,6 +51,8 @@ fn count_relays(plan: &[u8]) -> [usize; 8]
     ensures { Tallies plan.now result }
 {
     let mut counts = [0usize; 8];
+    // Kept: by place and not by an iterator over commands, which would wait for each command's width: tried
+    // when it was written, for the speed of the load (README, Speed).
     let mut at: usize = 0;
     while !command::is_cut(plan, at) {
         let command = plan[at];

@@ -115,6 +115,7 @@ fn read_links(card: &[u8], head: Head) -> Result<[[bool; 8]; 8], CardGround>
     requires { (head.n ≤ 8) × (At card.now 3 head.n head.f no_links) }
     ensures { ReadAs card.now head.n head.f result }
 {
+    // Kept: by place and not by chunks, since a refusal names the place of the command (table of FORMATS.md).
     let mut at: usize = 3;
     let mut marks = [[false; 8]; 8];
     while whole_link(card, at) {

@@ -14,6 +14,8 @@ use refusal::{CallGround, Refusal};
 fn card_length(links: [[bool; 8]; 8]) -> usize
     ensures { result ≡ 4 + length (link_bytes (ascending links)) }
 {
+    // Kept: one loop over the pairs and not two over rows and marks, since the card has its links in the order
+    // of the pairs (`links_among`).
     let mut bytes: usize = 4;
     for pair in 0..64usize {
         let u = pair / 8;

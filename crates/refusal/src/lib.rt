@@ -166,6 +166,7 @@ impl CallGround {
 
 impl Refusal {
     // What is at fault: 0 the card, 1 the plan, 2 the call.
+    // Kept: a number, since it is a word of the C interface (`refused_words`); the library matches on the enum.
     pub fn whose(self) -> u8
         ensures { result ≡ whose_of (refusal_of self) }
     {

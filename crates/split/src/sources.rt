@@ -67,6 +67,8 @@ fn half_table(rows: [u8; 8], first: usize) -> [u8; 16]
 }
 
 // The servers with a link into the sets of the lower four servers.
+// Kept: it and the next differ in a constant alone, but both are public functions that ask nothing of a
+// caller (DECISIONS.md, 90), and one with the constant as a parameter would ask that it is at most 4.
 pub fn lower_table(rows: [u8; 8]) -> [u8; 16]
     ensures { HalfTable rows 0 result }
 {
