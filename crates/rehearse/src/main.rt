@@ -29,7 +29,9 @@ fn read_full(file: &mut impl Read, buf: &mut [u8]) -> usize
 
 // The file's bytes. One byte more than a file may have is read, so that a file that is too long is seen
 // to be.
-fn read_file<'a>(rt: &impl Files, path: &str, buf: &'a mut [u8]) -> &'a [u8] {
+fn read_file<'a>(rt: &impl Files, path: &str, buf: &'a mut [u8]) -> &'a [u8]
+    ensures { length result.now ≤ length buf.old }
+{
     let length = match fs::open(rt, path) {
         Ok(mut file) => read_full(&mut file, &mut *buf),
         Err(_) => 0,
