@@ -7,23 +7,22 @@
 use mathlib.Core.Path.{◌≡◌, sym, ap, ◌∙◌}
 use mathlib.Core.Bool.{Bool, true, false, ◌||◌}
 use mathlib.Core.List.{List}
-use Prim.Native.Nat.{ℕ, ◌+◌, ◌-◌, ◌^◌, ◌≤◌, ◌<◌}
+use Prim.Native.Nat.{ℕ, ◌+◌, ◌^◌, ◌≤◌, ◌<◌}
 use native.Mathlib.Omega.{arith}
 use lib.ListN.{length, get_or, set, length-set}
 use lib.Seq.{get_or-set_same, get_or-set_other}
-use lib.Pow.{pow_pos}
+use lib.Pow.{pow_mono}
 use lib.Dec.{eqb, leb}
 use borrow.Author.Tests.{eqb-true, eqb-false, leb-true, leb-false}
 use Rattle.facts.proofs.Bools.{cases}
-use Rattle.sets.specs.Sets.{has, single, meet, minus, full, next}
+use Rattle.sets.specs.Sets.{has, single, meet, minus, next}
 use Rattle.sets.proofs.Members.{meet_comm, meet_nothing}
 use Rattle.sets.proofs.NextSet.{next_apart, next_after, next_least}
 use Rattle.network.specs.Links.{Links}
 use Rattle.split.specs.Split.{some_below}
-use Rattle.split.specs.Weak.{outside}
-use Rattle.split.specs.Sources.{Tables}
+use Rattle.split.specs.Sources.{Sources, outside_rows}
 use Rattle.split.proofs.Neighbours.{some_below_same, some_of, none_of}
-use Rattle.split.proofs.Weakness.{weak_is}
+use Rattle.split.proofs.Weakness.{weak_is, outside_is}
 use Rattle.planner.specs.Choice.{holds_weak}
 use Rattle.choice.specs.WeakTable.{less_at, any_less, WeakTable}
 use Rattle.choice.proofs.Smaller.{less_number, less_apart, holds_empty, holdsWithout, holds_less}
@@ -80,14 +79,13 @@ module _ (weak any : Bool) (b : Bool) (e : b ≡ weak) where
 
 -- the table
 
-module _ (f : ℕ) (sizes lower upper : List ℕ) (F : ℕ) where
+module _ (n f : ℕ) (links : Links) (few : n ≤ 8) (rows : List ℕ) (so : Sources n links rows) (F : ℕ) where
   -- before the turn of the set `at`
   pub record Filling (at : ℕ) (table : List Bool) : Type 0 where
     pub some : 0 < at
     pub clear : meet at F ≡ 0
     pub long : length table ≡ 256
-    pub made : (n : ℕ) (links : Links) → n ≤ 8 → Tables n links sizes lower upper
-        → (X : ℕ) → X < 2 ^ n → X < at → meet X F ≡ 0 → get_or table X false ≡ holds_weak n f links F X
+    pub made : (X : ℕ) → X < 2 ^ n → X < at → meet X F ≡ 0 → get_or table X false ≡ holds_weak n f links F X
 
   -- a set apart from F that comes before the next one
   before_next : (at X : ℕ) → meet at F ≡ 0 → X < next at F → meet X F ≡ 0 → X ≤ at
@@ -102,55 +100,44 @@ module _ (f : ℕ) (sizes lower upper : List ℕ) (F : ℕ) where
         some = let a = next_after 0 F (meet_nothing F) in omega arith;
         clear = ap (λ (x : ℕ). meet x F) e ∙ next_apart 0 F;
         long = l;
-        made = λ n links few t X small h a.
+        made = λ X small h a.
             let x : X ≡ 0 = let b = before_next 0 X (meet_nothing F) (omega arith) a in omega arith in
             rw x (z ∙ sym (holds_empty n f links F few));
       }
 
-  -- b is what `holds_weak` says of the set `at`
-  abbrev pub Answers : (table : List Bool) (at : ℕ) (b : Bool) → Type 0
-  Answers table at b =
-      (n : ℕ) (links : Links) → n ≤ 8 → at < 2 ^ n → Tables n links sizes lower upper → b ≡ (leb (outside n links F at) f || any_less table at)
-
-  module _ (at : ℕ) (table : List Bool) (s : Filling at table) (at' : ℕ) (e : at' ≡ next at F) where
+  module _ (at : ℕ) (table : List Bool) (s : Filling at table) (at' : ℕ) (e : at' ≡ next at F) (small : at < 2 ^ n) where
     -- the smaller sets tell whether the set holds a weak set
-    any_holds : (n : ℕ) (links : Links) → n ≤ 8 → Tables n links sizes lower upper → at < 2 ^ n → any_less table at ≡ some_below 8 (holdsWithout n f links F at)
+    any_holds : any_less table at ≡ some_below 8 (holdsWithout n f links F at)
     unfolding any_less less_at
-    any_holds n links few t small =
+    any_holds =
         some_below_same 8 (less_at table at) (holdsWithout n f links F at)
         (λ x k. cases (has at x)
         (λ h. let l = less_number at x k h in
-        let m = s.made n links few t (minus at (single x)) (omega arith) l (less_apart n at (single x) F small s.clear) in
+        let m = s.made (minus at (single x)) (omega arith) l (less_apart n at (single x) F small s.clear) in
         cc)
         (λ h. cc))
 
-    entry_holds : (b : Bool) → Answers table at b → (n : ℕ) (links : Links) → n ≤ 8 → Tables n links sizes lower upper → at < 2 ^ n → b ≡ holds_weak n f links F at
-    entry_holds b so n links few t small =
-        let a = so n links few small t in
+    entry_holds : (b : Bool) → b ≡ (leb (outside_rows rows F at) f || any_less table at) → b ≡ holds_weak n f links F at
+    entry_holds b a =
+        let o = outside_is n links rows few so F at small in
         let w = weak_is n f links F at s.some (meet_comm F at ∙ s.clear) in
-        let l = any_holds n links few t small in
+        let l = any_holds in
         let h = holds_less n f links F few at small in
         cc
 
-    pub filling_turn : at < 256 → (b : Bool) → Answers table at b → Filling at' (set table at b)
-    filling_turn byte b so =
+    pub filling_turn : (b : Bool) → b ≡ (leb (outside_rows rows F at) f || any_less table at) → Filling at' (set table at b)
+    filling_turn b a =
+        let byte : at < 256 = let m : 2 ^ n ≤ 2 ^ 8 = pow_mono few in omega arith in
         record {
           some = let a = next_after at F s.clear in omega arith;
           clear = ap (λ (x : ℕ). meet x F) e ∙ next_apart at F;
           long = simp (length-set, s.long);
-          made = λ n links few t X small h a.
+          made = λ X small h c.
               cases (eqb X at)
-              (λ q. let x = eqb-true X at q in
-              rw x (let l = s.long in get_or-set_same table at b false (omega arith) ∙ entry_holds b so n links few t (omega arith)))
+              (λ q. let x = eqb-true X at q in rw x (let l = s.long in get_or-set_same table at b false (omega arith) ∙ entry_holds b a))
               (λ q. let o = eqb-false X at q in
-              get_or-set_other table at X b false o ∙ s.made n links few t X small (let k = before_next at X s.clear (omega arith) a in omega arith) a);
+              get_or-set_other table at X b false o ∙ s.made X small (let k = before_next at X s.clear (omega arith) c in omega arith) c);
         }
 
-    pub filling_falls : (limit : ℕ) → at < limit → limit - at' < limit - at
-    filling_falls limit h = let a = next_after at F s.clear in omega arith
-
-  pub filling_ends : (at : ℕ) (table : List Bool) → Filling at table → (servers : ℕ) → servers + 1 ≤ at
-      → (n : ℕ) (links : Links) → n ≤ 8 → servers ≡ full n → Tables n links sizes lower upper → WeakTable n f links F table
-  unfolding full
-  filling_ends at table s servers h n links few all t =
-      record { long = s.long; entry = λ X small a. s.made n links few t X small (let p = pow_pos n in omega arith) a }
+  pub filling_ends : (at : ℕ) (table : List Bool) → Filling at table → 2 ^ n ≤ at → WeakTable n f links F table
+  filling_ends at table s h = record { long = s.long; entry = λ X small a. s.made X small (omega arith) a }
