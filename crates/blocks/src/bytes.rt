@@ -2,6 +2,8 @@
 ghost use Rattle.std.specs.Prelude.{[], ◌∷◌, ◌+◌, ◌≤◌, length};
 ghost use Rattle.blocks.specs.Placed.{Placed};
 
+use choice::Chosen;
+
 // A place in lent memory, where the next byte goes.
 #[derive(Drop)]
 pub(crate) struct Place<'a> {
@@ -22,14 +24,14 @@ impl<'a> Place<'a> {
     }
 
     // The head of a block: 16, F, A and S.
-    pub(crate) fn put_head(&mut self, fault: u8, side: u8, quorum: u8)
+    pub(crate) fn put_head(&mut self, fault: u8, chosen: Chosen)
         requires { self.old.at ≤ 1000000 }
-        ensures { Placed (16 ∷ fault ∷ side ∷ quorum ∷ []) 4 self.old self.new }
+        ensures { Placed (16 ∷ fault ∷ chosen.side ∷ chosen.quorum ∷ []) 4 self.old self.new }
     {
         self.put(16);
         self.put(fault);
-        self.put(side);
-        self.put(quorum);
+        self.put(chosen.side);
+        self.put(chosen.quorum);
     }
 
     // A route command and its operand where the buffer ends within them.

@@ -8,6 +8,7 @@ mod routes;
 ghost use Rattle.blocks.specs.Written.{block_by, BlockPut};
 
 use crate::bytes::Place;
+use choice::Chosen;
 
 // What all blocks of one F are written by.
 #[derive(Clone, Copy, Drop)]
@@ -24,15 +25,15 @@ pub struct Site {
     pub fault: u8,
 }
 
-// The block with this A and S, from the start of `part` on as far as it has room; answers how many
+// The block with the A and S that are chosen, from the start of `part` on as far as it has room; answers how many
 // bytes the block has. S lies within A, so there is no route of 11.
-pub fn put_block(part: &mut [u8], site: &Site, side: u8, quorum: u8) -> usize
-    ensures { BlockPut (block_by site.now.rows site.now.sources site.now.sound site.now.count site.now.fault side quorum) part.old part.new result }
+pub fn put_block(part: &mut [u8], site: &Site, chosen: Chosen) -> usize
+    ensures { BlockPut (block_by site.now.rows site.now.sources site.now.sound site.now.count site.now.fault chosen.side chosen.quorum) part.old part.new result }
 {
     let mut place = Place { part, at: 0 };
-    place.put_head(site.fault, side, quorum);
-    place.put_mesh(site, quorum);
-    place.put_fans(site, quorum);
+    place.put_head(site.fault, chosen);
+    place.put_mesh(site, chosen.quorum);
+    place.put_fans(site, chosen.quorum);
     place.put_reports(site);
     place.at
 }
