@@ -13,16 +13,17 @@ use Rattle.refusal.specs.declared.Refusal.{Refusal}
 use Rattle.facts.specs.Laid.{laid}
 use Rattle.facts.proofs.Stores.{laid_append, length_laid, laid_whole}
 use Rattle.network.specs.Links.{Links}
-use Rattle.network.specs.Card.{network, read_card, turned, head_of}
+use Rattle.network.specs.Card.{network, refused, read_card}
 use Rattle.network.specs.Proper.{Proper}
 use Rattle.split.specs.Split.{Split, good, bad, unread, first_bad, split_test}
-use Rattle.split.proofs.Heads.{refused_split}
 use Rattle.rules.specs.Blocks.{encode_blocks, encode_plan}
 use Rattle.planner.specs.Plan.{plan_of, plan_bytes, plan_length}
 use Rattle.planner.specs.Write.{Writing, wrote, unwritten, plan_for, fitting, write_into, after_write, written_in}
 use Rattle.planner.proofs.Lengths.{plan_exact}
 use Rattle.planner.proofs.Main.{write_on_lem, plan_read, wrote_length, accepts, shortest}
-use Rattle.writer.specs.declared.write.Written.{Written}
+use Rattle.std.specs.Prelude.{Result, Err}
+use Rattle.split.specs.declared.Split as Code
+use Rattle.writer.specs.declared.write.Unwritten.{Unwritten}
 use Rattle.writer.specs.Answers.{written_of, Wrote}
 
 module _ (n f : ℕ) (links : Links) (p : Proper n f links) (g : first_bad n f links ≡ good) (lent : List ℕ) (bytes : ℕ) (b : bytes ≡ plan_length n f) where
@@ -60,7 +61,7 @@ module _ (n f : ℕ) (links : Links) (p : Proper n f links) (g : first_bad n f l
 
 -- the whole answer
 
-wrote_of : (card lent after : List ℕ) (r : Written) → written_of r ≡ write_into card lent → after ≡ written_in card lent → Wrote card lent r after
+wrote_of : (card lent after : List ℕ) (r : Result ℕ Unwritten) → written_of r ≡ write_into card lent → after ≡ written_in card lent → Wrote card lent r after
 wrote_of card lent after r a b =
     record {
       answer = a;
@@ -70,30 +71,36 @@ wrote_of card lent after r a b =
     }
 
 module _ (card lent : List ℕ) where
-  pub refused_wrote : (x : Refusal) → unread (refusal_of x) ≡ split_test card → Wrote card lent (Written.Refused x) lent
+  pub refused_wrote : (x : Refusal) → unread (refusal_of x) ≡ split_test card → Wrote card lent (Err (Unwritten.Refused x)) lent
   unfolding written_in
   refused_wrote x e =
       let q = write_on_lem card lent (unread (refusal_of x)) (sym e) in
-      wrote_of card lent lent (Written.Refused x) (sym q) (sym (ap (λ (w : Writing). after_write w (plan_for card) lent) q))
+      wrote_of card lent lent (Err (Unwritten.Refused x)) (sym q) (sym (ap (λ (w : Writing). after_write w (plan_for card) lent) q))
 
-  pub bad_wrote : (F L C R : ℕ) → bad F L C R ≡ split_test card → Wrote card lent (Written.Split F L C R) lent
+  pub bad_wrote : (x : Code.Split) → bad x.f x.l x.c x.r ≡ split_test card → Wrote card lent (Err (Unwritten.Split x)) lent
   unfolding written_in
-  bad_wrote F L C R e =
-      let q = write_on_lem card lent (bad F L C R) (sym e) in
-      wrote_of card lent lent (Written.Split F L C R) (sym q) (sym (ap (λ (w : Writing). after_write w (plan_for card) lent) q))
+  bad_wrote x e =
+      let q = write_on_lem card lent (bad x.f x.l x.c x.r) (sym e) in
+      wrote_of card lent lent (Err (Unwritten.Split x)) (sym q) (sym (ap (λ (w : Writing). after_write w (plan_for card) lent) q))
 
-  pub good_wrote : (n f : ℕ) (links : Links) → read_card card ≡ network n f links → good ≡ split_test card → (r : Written) (after : List ℕ)
+  pub good_wrote : (n f : ℕ) (links : Links) → network n f links ≡ read_card card → good ≡ split_test card → (r : Result ℕ Unwritten) (after : List ℕ)
       → written_of r ≡ fitting (plan_bytes n f links) lent → after ≡ after_write (written_of r) (plan_bytes n f links) lent → Wrote card lent r after
   unfolding written_in
   good_wrote n f links e g r after a b =
-      let p = plan_read card n f links e in
+      let p = plan_read card n f links (sym e) in
       let q : write_into card lent ≡ fitting (plan_for card) lent = write_on_lem card lent good (sym g) in
       let t : written_of r ≡ write_into card lent = a ∙ ap (λ (s : List ℕ). fitting s lent) (sym p) ∙ sym q in
       wrote_of card lent after r t (b ∙ ap (λ (s : List ℕ). after_write (written_of r) s lent) (sym p) ∙ ap (λ (w : Writing). after_write w (plan_for card) lent) t)
 
+  -- the network of a card that the split test passes has no bad split
+  pub good_network : (n f : ℕ) (links : Links) → network n f links ≡ read_card card → good ≡ split_test card → first_bad n f links ≡ good
+  unfolding split_test
+  good_network n f links e g = let z = rw (sym e) at g in sym z
+
   -- a card that is not read has no split test to say "none"
-  pub good_unread : {C : Type 0} → good ≡ split_test card → (r : Refused) → head_of (read_card card) ≡ turned r → C
-  good_unread g r e = let z = g ∙ sym (refused_split card r e) in absurd (kinds z)
+  pub good_unread : {C : Type 0} → good ≡ split_test card → (r : Refused) → refused r ≡ read_card card → C
+  unfolding split_test
+  good_unread g r e = let z = rw (sym e) at g in absurd (kinds z)
     where
       kind_of : Split → ℕ
       kind_of good = 0

@@ -1,7 +1,7 @@
 -- Bytes that are laid over a buffer where earlier ones stand already.
 --     laid_front       a byte before the place is as it was; laid_kept so many of them
 --     laid_held        what is laid stands there; part_laid the same through a part that was lent on
---     opening_laid     four bytes stored one after the other
+--     piece_laid       so many bytes stored at once
 --     Copying          bytes of a place before laid again; copying-.. the loop
 -- Assumes nothing.
 use mathlib.Core.Path.{◌≡◌, refl, sym, ap, ◌∙◌}
@@ -9,11 +9,11 @@ use mathlib.Core.List.{List, [], ◌∷◌, ◌++◌, append-nil}
 use Prim.Native.Nat.{ℕ, suc, ◌+◌, ◌-◌, ◌≤◌, ◌<◌}
 use native.Mathlib.Omega.{arith}
 use native.Mathlib.Nat.{add-suc}
-use native.Mathlib.Numerals.{add-one, add-two, add-three}
+use native.Mathlib.Numerals.{add-one}
 use lib.ListN.{length, get_or, set, take, drop, length-set, length-drop, take-append-drop, drop_of_length-le}
 use lib.Seq.{take-suc, length-take-le, get_or-drop, get_or-set_other, take-append_seam, drop-set-add, take-set-le, take_all}
 use Rattle.facts.specs.Laid.{laid}
-use Rattle.facts.proofs.Stores.{laid_append, laid_whole}
+use Rattle.facts.proofs.Stores.{laid_append, laid_mid, laid_whole}
 
 pub laid_front : (at : ℕ) (text l : List ℕ) (q : ℕ) → q < at → get_or (laid at text l) q 0 ≡ get_or l q 0
 unfolding laid
@@ -59,9 +59,9 @@ part_laid at old last text h e =
     let c : take at (laid at text old) ≡ take at old = laid_kept at text old 0 at (omega arith) in
     rw (a, b, append-nil (drop at (laid at text old)), sym c) (take-append-drop at (laid at text old))
 
-pub opening_laid : (at a b c d : ℕ) (l : List ℕ) → set (set (set (set l at a) (at + 1) b) (at + 2) c) (at + 3) d ≡ laid at (a ∷ b ∷ c ∷ d ∷ []) l
-unfolding laid
-opening_laid at a b c d l = rw (add-one, add-two, add-three) refl
+-- so many bytes at once
+pub piece_laid : (at k : ℕ) (text mid l : List ℕ) → length text ≡ k → at + k ≤ length l → mid ≡ text → take at l ++ (mid ++ drop (at + k - at) (drop at l)) ≡ laid at text l
+piece_laid at k text mid l e h m = let d : at + k - at ≡ length text = omega arith in rw (m, d) (laid_mid at text l (omega arith))
 
 one : (at v : ℕ) (l : List ℕ) → set l at v ≡ laid at (v ∷ []) l
 unfolding laid

@@ -1,23 +1,23 @@
 -- A block written anew, and one whose body stands in the buffer already.
 --     block_split       a block is its opening and its body, which does not depend on A
---     block_new         a block written anew into the part from its place on
+--     block_new         a block written anew into the part from its place on; long_new how many bytes it has
+--     again_fits        there is room for its opening and its body
 --     block_again       its opening laid, and its body copied, are the block
 -- Assumes nothing.
 use mathlib.Core.Path.{◌≡◌, refl, sym, ap, ◌∙◌}
-use mathlib.Core.Logic.{◌⊎◌, ⊎_elim}
 use mathlib.Core.List.{List, [], ◌∷◌, ◌++◌}
 use Prim.Native.Nat.{ℕ, ◌+◌, ◌-◌, ◌≤◌}
 use native.Mathlib.Omega.{arith}
 use lib.ListN.{length, take, drop, length-append}
 use Rattle.facts.specs.Laid.{laid}
-use Rattle.facts.proofs.Stores.{laid_append, length_laid}
-use Rattle.sets.specs.Sets.{minus, full}
+use Rattle.facts.proofs.Stores.{laid_append}
 use Rattle.network.specs.Links.{Links}
 use Rattle.rules.specs.Blocks.{encode_block}
 use Rattle.planner.specs.Plan.{block_with}
 use Rattle.blocks.specs.Written.{block_by, BlockPut}
 use Rattle.blocks.proofs.Plan.{block_by_lem}
-use Rattle.writer.specs.Site.{Site}
+use Rattle.blocks.specs.declared.Site.{Site}
+use Rattle.writer.specs.Site.{Ready}
 use Rattle.writer.specs.Bytes.{opening_bytes, body_bytes, Stands}
 use Rattle.writer.proofs.Copies.{laid_kept, part_laid}
 
@@ -25,7 +25,7 @@ pub block_split : (n f : ℕ) (links : Links) (F A S : ℕ) → encode_block (bl
 unfolding encode_block block_with opening_bytes body_bytes
 block_split n f links F A S = refl
 
-module _ (n f : ℕ) (links : Links) (F A S from each at : ℕ) (lent mid last : List ℕ) (st : Stands (body_bytes n f links F S) from each at lent)
+module _ (n f : ℕ) (links : Links) (F A S from each at : ℕ) (lent mid last : List ℕ) (st : Stands (body_bytes n f links F S) each at lent from)
     (m : mid ≡ laid at (16 ∷ F ∷ A ∷ S ∷ []) lent) (l : last ≡ laid (at + 4) (take (each - 4) (drop from mid)) mid) where
   pub block_again : (last ≡ laid at (encode_block (block_with n f links F A S)) lent) × (each ≡ length (encode_block (block_with n f links F A S)))
   unfolding opening_bytes
@@ -40,29 +40,24 @@ module _ (n f : ℕ) (links : Links) (F A S from each at : ℕ) (lent mid last :
         w ∙ sym (ap length e ∙ length-append (opening_bytes F A S) body),
       )
 
--- the second of two, if it is not the first
-pub other : {A B : Type 0} → (A → ⊥) → A ⊎ B → B
-other o = ⊎_elim (λ a. absurd (o a)) (λ b. b)
+-- there is room for the opening and the body
+pub again_fits : (n f : ℕ) (links : Links) (F A S from each at : ℕ) (lent : List ℕ) → Stands (body_bytes n f links F S) each at lent from
+    → at + length (encode_block (block_with n f links F A S)) ≤ length lent → (at + 4 ≤ length lent) × (from + (each - 4) ≤ at + 4) × (at + 4 + (each - 4) ≤ length lent)
+unfolding opening_bytes
+again_fits n f links F A S from each at lent st h =
+    let w = st.whole in
+    let b = st.before in
+    let l = ap length (block_split n f links F A S) ∙ length-append (opening_bytes F A S) (body_bytes n f links F S) in
+    (omega arith, omega arith, omega arith)
 
 -- a block written anew, into the part from its place on
-new_block : (n f : ℕ) (links : Links) (rows nears : List ℕ) (W k F A S : ℕ) → Site n f links rows nears → W ≡ minus (full n) F → k ≡ f + 1 → block_by rows nears W k F A S ≡ block_with n f links F A S
-new_block n f links rows nears W k F A S s a b = rw (s.ahead, a, b) (block_by_lem links nears s.back n f F A S)
+module _ (n f : ℕ) (links : Links) (F A S at : ℕ) (site : Site) (rd : Ready n f links F site) (old last : List ℕ) (r : ℕ) (h : at ≤ length old)
+    (put : BlockPut (block_by site.rows site.sources site.sound site.count site.fault A S) (take (length old - at) (drop at old)) last r) where
+  block_is : block_by site.rows site.sources site.sound site.count site.fault A S ≡ block_with n f links F A S
+  block_is = rw (rd.ahead, rd.sound, rd.count, rd.fault) (block_by_lem links site.sources rd.back n f F A S)
 
-module _ (rows nears : List ℕ) (W k F A S at : ℕ) (old last : List ℕ) (r : ℕ) (h : at ≤ length old)
-    (put : BlockPut (block_by rows nears W k F A S) (take (length old - at) (drop at old)) last r) where
-  -- the buffer with the part put back
-  abbrev after : List ℕ
-  after = take at old ++ (last ++ drop (length old - at) (drop at old))
+  pub block_new : take at old ++ (last ++ drop (length old - at) (drop at old)) ≡ laid at (encode_block (block_with n f links F A S)) old
+  block_new = part_laid at old last (encode_block (block_with n f links F A S)) h (rw block_is at put.bytes)
 
-  after_is : after ≡ laid at (encode_block (block_by rows nears W k F A S)) old
-  after_is = part_laid at old last (encode_block (block_by rows nears W k F A S)) h put.bytes
-
-  pub block_new : ((n f : ℕ) (links : Links) → Site n f links rows nears → W ≡ minus (full n) F → k ≡ f + 1
-      → (after ≡ laid at (encode_block (block_with n f links F A S)) old) × (r ≡ length (encode_block (block_with n f links F A S)))) × (r ≤ 16384) × (length after ≡ length old)
-  block_new = (
-    λ n f links s a b.
-        let e = ap encode_block (new_block n f links rows nears W k F A S s a b) in
-        (after_is ∙ ap (λ (t : List ℕ). laid at t old) e, put.long ∙ ap length e),
-    put.few,
-    ap length after_is ∙ length_laid at (encode_block (block_by rows nears W k F A S)) old,
-  )
+  pub long_new : r ≡ length (encode_block (block_with n f links F A S))
+  long_new = rw block_is at put.long

@@ -4,5 +4,5 @@
 
 mod again;
 mod cuts;
-mod parts;
+mod fault;
 pub mod write;

@@ -1,6 +1,7 @@
--- `writer::again::put_opening` meets its contract: four stores, one after the other. Assumes nothing.
-use Rattle.writer.proofs.Copies.{opening_laid}
+-- `writer::again::put_opening` meets its contract: four bytes stored at once. Assumes nothing.
+use Rattle.std.proofs.Common.{refl}
+use Rattle.writer.proofs.Copies.{piece_laid}
 use Rattle.writer.proofs.again.put_opening.Goals as goal
 
 pub returns : goal.returns
-returns c = opening_laid _ _ _ _ _ _
+returns c = piece_laid _ _ _ _ _ refl c.requires c.copy_from_slice.ensures.after

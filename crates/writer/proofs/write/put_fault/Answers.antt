@@ -1,21 +1,22 @@
-use mathlib.Core.Path.{refl}
-use native.Mathlib.Omega.{arith}
+use Rattle.std.proofs.Common.{refl, ap, ◌∙◌, ℕ}
+use Rattle.sets.specs.Sets.{minus}
 use Rattle.plan.proofs.Cuts.{full_few}
-use Rattle.choice.proofs.Filled.{filling_starts, filling_turn, filling_falls, filling_ends}
-use Rattle.writer.proofs.Faulting.{ready_of}
+use Rattle.split.proofs.SourceRows.{sources_proper}
+use Rattle.choice.proofs.Filled.{filling_starts, filling_turn, filling_ends}
 use Rattle.writer.proofs.write.put_fault.Goals as goal
 
-pub loop-next-init : goal.loop-next-init
-loop-next-init c = filling_starts _ _ _ _ _ _ _ c.next_apart-next.ensures refl refl
+pub loop-set-init : goal.loop-set-init
+loop-set-init c =
+    let a = c.apart-set-items.ensures in
+    rw c.into_iter-set-iterator.ensures.into_iter_gives (filling_starts _ _ _ _ c.args.network.now.proper.most _ _ _ _ a.0 (a.1 ∙ c.full-servers.ensures) a.2 refl refl)
 
-pub loop-next-smaller : goal.loop-next-smaller
-loop-next-smaller c = filling_falls _ _ _ _ _ _ _ c.loop-next.invariant _ c.next_apart-next-in-loop-next.ensures _ (omega arith)
+pub loop-set-preserved : goal.loop-set-preserved
+loop-set-preserved c =
+    let s = c.in-Some.ensures.steps in
+    let w = c.args.network.now in
+    rw s.1 (filling_turn _ _ _ _ w.proper.most _ (sources_proper _ _ _ _ w.proper c.requires.back) _ _ _ _ c.loop-set.invariant _ _ _ s.0 s.2 s.3 s.4 _ (rw s.1 at c.holds_weak-held.ensures))
 
-pub loop-next-preserved : goal.loop-next-preserved
-loop-next-preserved c = filling_turn _ _ _ _ _ _ _ c.loop-next.invariant _ c.next_apart-next-in-loop-next.ensures (omega arith) _ c.holds_weak-held.ensures
-
-pub put_cuts-requires : goal.put_cuts-requires
-put_cuts-requires c = (c.requires.0, ready_of _ _ _ _ _ _ _ _ _ c.requires.1 _ (full_few _ _ c.requires.1.site.proper.most c.full-servers.ensures).0 _ (filling_ends _ _ _ _ _ _ _ c.loop-next.invariant _ c.loop-next-test.false), c.requires.2)
-
-pub returns : goal.returns
-returns c = λ links r room. c.put_cuts.ensures links (ready_of _ _ _ _ _ _ _ _ _ r _ (full_few _ _ c.requires.1.site.proper.most c.full-servers.ensures).0 _ (filling_ends _ _ _ _ _ _ _ c.loop-next.invariant _ c.loop-next-test.false)) room
+pub invariant_of-of : goal.invariant_of-of
+invariant_of-of c =
+    let (v, e, b) = full_few _ _ c.args.network.now.proper.most c.full-servers.ensures in
+    record { rest = c.minus-sound.ensures ∙ ap (λ (x : ℕ). minus x c.args.fault) v; marks = filling_ends _ _ _ _ c.args.network.now.proper.most _ _ _ _ c.loop-set.invariant c.in-None.ensures.steps }
