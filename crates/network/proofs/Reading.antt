@@ -9,11 +9,14 @@ use native.Mathlib.Omega.{arith}
 use lib.ListN.{length, get_or, set}
 use lib.Dec.{eqb, ltb}
 use borrow.Author.Tests.{lt-ltb, le-ltb, eq-eqb, ne_eqb, eqb-true, eqb-false, ltb-true, ltb-false}
+use Rattle.std.specs.Prelude.{Result, Ok, Err}
+use Rattle.refusal.specs.declared.CardGround.{CardGround}
 use Rattle.facts.proofs.Bools.{bools, cases, clash}
 use Rattle.refusal.specs.Refused.{Refused, card, card_refusal, refusal_of}
 use Rattle.network.specs.Links.{Links, no_links, with_link}
 use Rattle.network.specs.Card.{Network, network, refused, more, done, turned_back, head_fits, link_fits, head_at, link_at, end_at, step_at, commands, read_card, turned, head_of, links_after, with_links}
-use Rattle.network.specs.Places.{At, whole_link, Opened, Opening, Closing}
+use Rattle.network.specs.declared.card.Head.{Head}
+use Rattle.network.specs.Places.{At, whole_link, Opened, Opening, Closing, Fronted, ReadAs}
 
 commands_done : (k : ℕ) (s : List ℕ) (answer : Network) → commands k s (done answer) ≡ answer
 unfolding commands
@@ -210,6 +213,12 @@ module _ {s : List ℕ} {at n f : ℕ} {marks : Links} where
           reading = reading_goes l.turn.reading _ _ _ _ (link_goes s at n f marks (omega arith) l.two (omega arith) (later l) k.fits) (omega arith) l.room;
         }
 
--- what the head gives: the place of the first link
-pub opening_fits : (s : List ℕ) (n f : ℕ) → Opened s n f → length s ≤ 1024 → (n ≤ 8) × At s 3 n f no_links
-opening_fits s n f q k = (head_most n f true (sym q.fits) refl, reading_goes (reading_starts s k) 3 n f no_links (q.step no_links) (omega arith) q.room)
+-- what the head gives: the place of the first link, or the card's refusal
+pub read_opened : (s : List ℕ) (r : Result Head CardGround) → length s ≤ 1024 → Opening s r → Fronted s r
+read_opened s (Ok h) k q = (head_most h.n h.f true (sym q.fits) refl, reading_goes (reading_starts s k) 3 h.n h.f no_links (q.step no_links) (omega arith) q.room)
+read_opened s (Err g) k q = reading_answer (reading_starts s k) _ (q no_links)
+
+-- what the command after the last whole link gives
+pub read_closed : {s : List ℕ} {at n f : ℕ} {marks : Links} → Turn s at n f marks → (r : Result Unit CardGround) → Closing s at r → ReadAs s n f r marks
+read_closed {s} {at} {n} {f} {marks} t (Ok x) o = reading_answer t.reading _ (o n f marks)
+read_closed {s} {at} {n} {f} {marks} t (Err g) o = reading_answer t.reading _ (o n f marks)

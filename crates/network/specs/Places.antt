@@ -3,11 +3,12 @@
 --     whole_link s at         == a link command with its operands stands at `at`
 --     Opening s r           <-> r is what the first command gives
 --     Closing s at r        <-> r is what the command at `at` gives, which is no whole link
---     ReadAs s n f r        <-> r is what the links after the head n f give: the links of the card's network, or its ground
+--     Fronted s r           <-> r is the head of the card, which is not too long, or its ground
+--     ReadAs s n f r links  <-> r is what is read after the head n f: the card's network has these links, or its ground
 use Rattle.std.specs.Prelude.{◌≡◌, Bool, true, not, ◌&&◌, List, ℕ, suc, ◌+◌, ◌-◌, ◌≤◌, eqb, ltb, length, get_or, Result, Ok, Err}
 use Rattle.refusal.specs.Refused.{card_refusal}
 use Rattle.refusal.specs.declared.CardGround.{CardGround}
-use Rattle.network.specs.Links.{Links}
+use Rattle.network.specs.Links.{Links, no_links}
 use Rattle.network.specs.Card.{network, refused, more, done, head_fits, step_at, commands, read_card}
 use Rattle.network.specs.declared.card.Head.{Head}
 
@@ -33,6 +34,11 @@ abbrev pub Closing : List ℕ → (at : ℕ) → Result Unit CardGround → Type
 Closing s at (Ok _) = (n f : ℕ) (links : Links) → step_at s at n f links ≡ done (network n f links)
 Closing s at (Err g) = (n f : ℕ) (links : Links) → step_at s at n f links ≡ done (refused (card_refusal g))
 
-abbrev pub ReadAs : List ℕ → (n f : ℕ) → Result Links CardGround → Type 0
-ReadAs s n f (Ok links) = network n f links ≡ read_card s
-ReadAs s n f (Err g) = refused (card_refusal g) ≡ read_card s
+-- the front of a card: its head, with the links still to be read, or its ground
+abbrev pub Fronted : List ℕ → Result Head CardGround → Type 0
+Fronted s (Ok h) = (h.n ≤ 8) × At s 3 h.n h.f no_links
+Fronted s (Err g) = refused (card_refusal g) ≡ read_card s
+
+abbrev pub ReadAs : List ℕ → (n f : ℕ) → Result Unit CardGround → Links → Type 0
+ReadAs s n f (Ok x) links = network n f links ≡ read_card s
+ReadAs s n f (Err g) links = refused (card_refusal g) ≡ read_card s

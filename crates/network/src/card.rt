@@ -3,7 +3,7 @@ ghost use Rattle.std.specs.Prelude.{◌≡◌, ◌≤◌, ◌<◌, false, length
 ghost use Rattle.network.specs.Card.{head_fits, link_fits, read_card};
 ghost use Rattle.network.specs.Links.{no_links};
 ghost use Rattle.network.specs.Answers.{network_of, Answered};
-ghost use Rattle.network.specs.Places.{whole_link, Opening, Closing, ReadAs, At};
+ghost use Rattle.network.specs.Places.{whole_link, Opening, Closing, Fronted, ReadAs, At};
 
 use crate::Network;
 use refusal::{CardGround, Refusal};
@@ -110,14 +110,14 @@ fn read_end(card: &[u8], at: usize) -> Result<(), CardGround>
     Err(CardGround::Cut(at))
 }
 
-// The links after the head, and the end. A link given again finds its mark set, and is one link.
-fn read_links(card: &[u8], head: Head) -> Result<[[bool; 8]; 8], CardGround>
-    requires { (head.n ≤ 8) × (At card.now 3 head.n head.f no_links) }
-    ensures { ReadAs card.now head.n head.f result }
+// The links after the head, marked in `marks`, which has none yet, and the end. A link given again finds
+// its mark set, and is one link.
+fn read_links(card: &[u8], head: Head, marks: &mut [[bool; 8]; 8]) -> Result<(), CardGround>
+    requires { (head.n ≤ 8) × (marks.old ≡ no_links) × (At card.now 3 head.n head.f no_links) }
+    ensures { ReadAs card.now head.n head.f result marks.new }
 {
     // Kept: by place and not by chunks, since a refusal names the place of the command (table of FORMATS.md).
     let mut at: usize = 3;
-    let mut marks = [[false; 8]; 8];
     while whole_link(card, at) {
         let u = card[at + 1];
         let v = card[at + 2];
@@ -130,8 +130,17 @@ fn read_links(card: &[u8], head: Head) -> Result<[[bool; 8]; 8], CardGround>
             return Err(CardGround::Range(at));
         }
     }
-    read_end(card, at)?;
-    Ok(marks)
+    read_end(card, at)
+}
+
+// The head of a card that is not too long.
+fn read_front(card: &[u8]) -> Result<Head, CardGround>
+    ensures { Fronted card.now result }
+{
+    if 1024 < card.len() {
+        return Err(CardGround::TooLong);
+    }
+    read_head(card)
 }
 
 impl Network {
@@ -139,11 +148,9 @@ impl Network {
     pub fn read(card: &[u8]) -> Result<Network, Refusal>
         ensures { network_of result ≡ read_card card.now }
     {
-        if 1024 < card.len() {
-            return Err(Refusal::Card(CardGround::TooLong));
-        }
-        let head = read_head(card)?;
-        let links = read_links(card, head)?;
+        let head = read_front(card)?;
+        let mut links = [[false; 8]; 8];
+        read_links(card, head, &mut links)?;
         Ok(Network {
             n: head.n,
             f: head.f,
@@ -153,15 +160,14 @@ impl Network {
 }
 
 // Reads the card: n and f, with the links laid into `links`; or what is at fault, with `links` as
-// it was.
+// it was. It reads into marks of its own and not through a network, whose copies of the marks cost
+// more than a small card.
 pub fn read_card(card: &[u8], links: &mut [[bool; 8]; 8]) -> Result<Head, Refusal>
     ensures { Answered card.now links.old result links.new }
 {
-    let network = Network::read(card)?;
-    let marks = network.links;
+    let head = read_front(card)?;
+    let mut marks = [[false; 8]; 8];
+    read_links(card, head, &mut marks)?;
     *links = marks;
-    Ok(Head {
-        n: network.n,
-        f: network.f,
-    })
+    Ok(head)
 }

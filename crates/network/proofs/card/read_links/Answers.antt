@@ -1,7 +1,5 @@
 use native.Mathlib.Omega.{arith}
-use Rattle.std.proofs.lemmas.Result.{err_from_is_err_and}
-use Rattle.network.specs.Links.{no_links}
-use Rattle.network.proofs.Reading.{Linking, Fitting, turn_links, linking_fits, linking_range, fitting_goes, reading_answer}
+use Rattle.network.proofs.Reading.{Linking, Fitting, turn_links, linking_fits, linking_range, fitting_goes, read_closed}
 use Rattle.network.proofs.card.read_links.Goals as goal
 use Rattle.network.proofs.card.read_links.Goals.{In-loop-head}
 
@@ -14,8 +12,7 @@ fitting : (c : goal.Then-link_fits) → Fitting c.args.card.now c.loop-head.at c
 fitting c = linking_fits (turn_links c.loop-head.invariant c.whole_link.ensures c.loop-head-test.true) c.link_fits.ensures c.if-link_fits.true
 
 pub loop-head-init : goal.loop-head-init
-unfolding no_links
-loop-head-init c = record { most = c.requires.0; later = omega arith; reading = c.requires.1 }
+loop-head-init c = record { most = c.requires.0; later = omega arith; reading = rw c.requires.1 c.requires.2 }
 
 pub bounds-card-at : goal.bounds-card-at
 bounds-card-at c = let k = linking (goal.at.bounds-card-at c).In-loop-head in omega arith
@@ -38,10 +35,5 @@ loop-head-preserved c = fitting_goes (fitting c)
 pub returns-else-link_fits : goal.returns-else-link_fits
 returns-else-link_fits c = linking_range (linking (goal.at.returns-else-link_fits c).In-loop-head) c.link_fits.ensures c.if-link_fits.false
 
-pub returns-in_err-read_end : goal.returns-in_err-read_end
-returns-in_err-read_end c =
-    let p = err_from_is_err_and c.from_residual.result c.from_residual.ensures.1 in
-    rw (p.1, p.2) (reading_answer c.loop-head.invariant.reading _ (c.in_err-read_end.ensures _ _ _))
-
 pub returns : goal.returns
-returns c = reading_answer c.loop-head.invariant.reading _ (c.in_ok-read_end.ensures _ _ _)
+returns c = read_closed c.loop-head.invariant _ c.read_end.ensures
