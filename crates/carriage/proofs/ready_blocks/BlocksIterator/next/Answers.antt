@@ -1,12 +1,11 @@
--- `carriage::blocks::Blocks` hands on the block at the front. Assumes nothing.
-use mathlib.Core.Path.{◌≡◌, refl}
+-- `carriage::ready_blocks::Blocks` hands on the block at the front. Assumes nothing.
+use mathlib.Core.Path.{refl}
 use Prim.Native.Nat.{◌≤◌}
 use lib.ListN.{length}
 use native.Mathlib.Omega.{arith}
 use borrow.Author.Rules.{rules}
-use Rattle.carriage.specs.Passing.{Passed}
 use Rattle.carriage.proofs.Starts.{block_ready, block_is, bytes_fit, after_is, after_whole}
-use Rattle.carriage.proofs.blocks.BlocksIterator.next.Goals as goal
+use Rattle.carriage.proofs.ready_blocks.BlocksIterator.next.Goals as goal
 
 pub slice_bounds-after-count : goal.slice_bounds-after-count
 slice_bounds-after-count c =

@@ -2,8 +2,8 @@
 ghost use Rattle.carriage.specs.Openings.{Opened, Runnable-prop};
 ghost use Rattle.std.proofs.Props.{props};
 
-use crate::block::Block;
 use crate::opening;
+use crate::ready_block::Block;
 
 // So many blocks from the front of these bytes on, for a network of n and f.
 #[derive(Clone, Copy, Drop)]
