@@ -3,6 +3,7 @@
 --     block_inward      the routes of 11; block_among, block_outward, block_reports: the others
 --     inward_long       how many there are
 --     block_bytes       how many bytes the block takes; block_fits: they are there
+--     commands_low      so there are not many
 --     inward_servers    the routes name servers
 --     reports_few       there are at most eight reports
 -- Assumes nothing.
@@ -18,7 +19,7 @@ use Rattle.facts.specs.Lists.{Each}
 use Rattle.rules.proofs.Groups.{routes_length}
 use Rattle.rules.proofs.Reports.{reports_length}
 use Rattle.carriage.specs.declared.opening.Opening.{Opening}
-use Rattle.carriage.specs.Openings.{Servers, ReportOf, Opens, Ready, block_at}
+use Rattle.carriage.specs.Openings.{Servers, ReportOf, Opens, Ready, block_at, RoutesThere, ReportsThere}
 
 -- F, A and S of the decoded block
 module _ (o : Opening) (s : List ℕ) (h : Opens o.n o.f s o) where
@@ -90,6 +91,9 @@ module _ (o : Opening) (s : List ℕ) (r : Ready o s) where
   pub block_fits : 4 + 9 * (o.inward + o.among + o.outward) + 3 * o.reports ≤ length s
   block_fits = let h = r.readable.fits in let e = block_bytes in omega arith
 
+  pub commands_low : o.inward + o.among + o.outward + o.reports ≤ 1048576
+  commands_low = let l = block_fits in let h = r.short in omega arith
+
   pub inward_servers : Each Servers (routes_at s 4 o.inward)
   inward_servers = let h = r.readable.inward in rw block_inward at h
 
@@ -101,6 +105,20 @@ module _ (o : Opening) (s : List ℕ) (r : Ready o s) where
 
   pub reports_servers : Each (ReportOf (o.f + 1)) (reports_at s (4 + 9 * (o.inward + o.among + o.outward)) o.reports)
   reports_servers = let h = r.readable.reports in rw block_reports at h
+
+  -- all their bytes are there, and name servers
+
+  pub inward_there : RoutesThere s 4 o.inward
+  inward_there = let l = block_fits in record { fits = omega arith; short = r.short; servers = inward_servers }
+
+  pub among_there : RoutesThere s (4 + 9 * o.inward) o.among
+  among_there = let l = block_fits in record { fits = omega arith; short = r.short; servers = among_servers }
+
+  pub outward_there : RoutesThere s (4 + 9 * (o.inward + o.among)) o.outward
+  outward_there = let l = block_fits in record { fits = omega arith; short = r.short; servers = outward_servers }
+
+  pub reports_there : ReportsThere s (4 + 9 * (o.inward + o.among + o.outward)) o.reports (o.f + 1)
+  reports_there = let l = block_fits in let f = r.bound in record { fits = omega arith; short = r.short; few = omega arith; told = reports_servers }
 
   pub reports_few : o.reports ≤ 8
   reports_few = let a = size_le o.fault in let b = r.opens.reports in omega arith

@@ -6,7 +6,7 @@
 -- Assumes nothing.
 use mathlib.Core.Path.{◌≡◌, refl, sym, ap, ◌∙◌}
 use mathlib.Core.List.{List}
-use Prim.Native.Nat.{ℕ, zero, suc, ◌+◌, ◌-◌, ◌≤◌, ◌<◌}
+use Prim.Native.Nat.{ℕ, zero, suc, ◌-◌, ◌≤◌, ◌<◌}
 use native.Mathlib.Omega.{arith}
 use lib.ListN.{length, take, drop, length-drop}
 use Rattle.sets.specs.Sets.{size, TableOf}
@@ -14,7 +14,6 @@ use Rattle.plan.proofs.Groups.{part_rest}
 use Rattle.rules.specs.Blocks.{decode_block, length_of}
 use Rattle.carriage.specs.declared.opening.Opening.{Opening}
 use Rattle.carriage.specs.Openings.{OpensBy, Opens, Readable, Runnable, Ready, block_at, Opened}
-use Rattle.carriage.proofs.Routes.{part_from}
 use Rattle.carriage.proofs.Opened.{opens_by}
 use Rattle.carriage.proofs.Placed.{block_bytes}
 

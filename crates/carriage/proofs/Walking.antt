@@ -126,7 +126,7 @@ last_path (suc left) k s wide e a =
     (omega arith, omega arith, omega arith)
 
 module _ (s : List ℕ) (wide : 8 ≤ length s) (two : 2 ≤ length (path (take 8 s))) where
-  receiver_path : (receiver_at s + 1 ≡ length (path (take 8 s))) × (1 ≤ receiver_at s) × (receiver_at s ≤ 7)
+  pub receiver_path : (receiver_at s + 1 ≡ length (path (take 8 s))) × (1 ≤ receiver_at s) × (receiver_at s ≤ 7)
   receiver_path = rw (← (receiver_long s wide)) (last_path 6 1 s wide refl (place_starts (take 8 s) two))
 
   pub walked_route : (X : ℕ) (r : Walk) → Walked X s r

@@ -3,5 +3,4 @@
 -- Passing    the blocks of an accepted plan, one after the other
 pub mod Walks
 pub mod Openings
-
 pub mod Passing

@@ -6,9 +6,10 @@
 --     Ready o s          o is what the opening command of such a block fixes
 use Rattle.std.specs.Coded.{Unit-prop, ×_prop}
 use Rattle.std.proofs.Props.{props}
-use Rattle.std.specs.Prelude.{◌≡◌, List, ℕ, zero, suc, min, ◌+◌, ◌-◌, ◌*◌, ◌≤◌, ◌<◌, length, get_or, drop}
+use Rattle.std.specs.Prelude.{◌≡◌, List, ℕ, zero, suc, min, ◌+◌, ◌-◌, ◌*◌, ◌≤◌, ◌<◌, length, get_or, take, drop}
 use Rattle.sets.specs.Sets.{minus, full, size}
-use Rattle.rules.specs.Blocks.{Route, Block, inward_due, among_due, outward_due, decode_block, length_of, Report}
+use Rattle.rules.specs.Blocks.{routes_at, reports_at, Route, Block, inward_due, among_due, outward_due, decode_block, length_of, Report}
+use Rattle.route.specs.Route.{path}
 use Rattle.facts.specs.Lists.{Each}
 use Rattle.carriage.specs.declared.opening.Opening.{Opening}
 
@@ -69,6 +70,24 @@ pub record Ready (o : Opening) (s : List ℕ) : Type 0 where
   pub short : length s ≤ 1048576
   pub opens : Opens o.n o.f s o
   pub readable : Readable o.n o.f s
+
+-- the commands of so many routes are there from this place on, and name servers
+pub record RoutesThere (s : List ℕ) (at count : ℕ) : Type 0 where
+  pub fits : at + 9 * count ≤ length s
+  pub short : length s ≤ 1048576
+  pub servers : Each Servers (routes_at s at count)
+
+-- the same of a route's operand
+pub record RouteThere (s : List ℕ) : Type 0 where
+  pub wide : 8 ≤ length s
+  pub servers : Servers (path (take 8 s))
+
+-- the commands of so many reports are there from this place on, each of so many servers
+pub record ReportsThere (s : List ℕ) (at count each : ℕ) : Type 0 where
+  pub fits : at + 3 * count ≤ length s
+  pub short : length s ≤ 1048576
+  pub few : each ≤ 8
+  pub told : Each (ReportOf each) (reports_at s at count)
 
 -- n and f are those of a network, and the first k blocks of the plan are whole
 pub record Opened (n f : ℕ) (plan : List ℕ) (k : ℕ) : Type 0 where

@@ -3,7 +3,10 @@
 #![tactic(auto)]
 
 pub mod arrival;
-pub mod block;
-pub mod blocks;
 pub mod opening;
+pub mod ready_block;
+pub mod ready_blocks;
+pub mod ready_reports;
+pub mod ready_route;
+pub mod ready_routes;
 pub mod walk;

@@ -2,7 +2,7 @@
 --     Alike, alike-..   the loop over the arrivals: whether those left are x is whether all are
 --     common-..         each way through the common value
 --     own1-.., ..       each way through the steps
---     commits-..        the commit of each kind
+--     commits-..        the commit of each kind; both: as the contract has it
 -- Assumes nothing.
 use mathlib.Core.Path.{◌≡◌, refl, sym, ap, ◌∙◌}
 use mathlib.Core.Bool.{Bool, true, false, cond}
@@ -149,26 +149,28 @@ module _ (o : Opening) (kind i : ℕ) (l : List ℕ) (s : Own) where
   unfolding commit_any committed_on
   commits_inward k begun a receivers b t p = rw (k, p, a, b) refl
 
-  module _ (k : kind ≡ 0x11 → ⊥) where
-    pub commits_among : kind ≡ 0x12 → (t : ℕ) → t ≡ own_compare o.quorum i l s.t → record { v = s.v; t = t } ≡ commit_any o kind i l s
-    unfolding commit_any committed_on
-    commits_among q t p = rw (q, p) refl
+  pub commits_among : kind ≡ 0x12 → (t : ℕ) → t ≡ own_compare o.quorum i l s.t → record { v = s.v; t = t } ≡ commit_any o kind i l s
+  unfolding commit_any committed_on
+  commits_among k t p = rw (k, p) refl
 
-    module _ (q : kind ≡ 0x12 → ⊥) where
-      pub commits_outward : kind ≡ 0x13 → (all : ℕ) → all ≡ full (min o.n 8) → (sound : ℕ) → sound ≡ minus all o.fault
-          → (receivers : ℕ) → receivers ≡ minus sound o.quorum → (t : ℕ) → t ≡ own_gather receivers i l s.t
-          → (kept : ℕ) → kept ≡ meet o.side o.quorum → (v : ℕ) → v ≡ own5 sound kept i t s.v
-          → record { v = v; t = t } ≡ commit_any o kind i l s
-      unfolding commit_any committed_on
-      commits_outward r all a sound b receivers c t d kept e v g = rw (r, g, e, d, c, b, a) refl
+  pub commits_outward : kind ≡ 0x13 → (all : ℕ) → all ≡ full (min o.n 8) → (sound : ℕ) → sound ≡ minus all o.fault
+      → (receivers : ℕ) → receivers ≡ minus sound o.quorum → (t : ℕ) → t ≡ own_gather receivers i l s.t
+      → (kept : ℕ) → kept ≡ meet o.side o.quorum → (v : ℕ) → v ≡ own5 sound kept i t s.v
+      → record { v = v; t = t } ≡ commit_any o kind i l s
+  unfolding commit_any committed_on
+  commits_outward k all a sound b receivers c t d kept e v g = rw (k, g, e, d, c, b, a) refl
 
-      pub commits_reports : (kind ≡ 0x13 → ⊥) → (v : ℕ) → v ≡ own6 o.fault i l s.v → record { v = v; t = s.t } ≡ commit_any o kind i l s
-      unfolding commit_any committed_on
-      commits_reports r v p = sym (simp (ne_eqb _ _ k, ne_eqb _ _ q, ne_eqb _ _ r, p))
+  pub commits_reports : (kind ≡ 0x11 → ⊥) × (kind ≡ 0x12 → ⊥) × (kind ≡ 0x13 → ⊥) → (v : ℕ) → v ≡ own6 o.fault i l s.v → record { v = v; t = s.t } ≡ commit_any o kind i l s
+  unfolding commit_any committed_on
+  commits_reports k v p = sym (simp (ne_eqb _ _ k.0, ne_eqb _ _ k.1, ne_eqb _ _ k.2, p))
 
--- of at most eight servers all count
-pub few_commit : (o : Opening) (kind i : ℕ) (l : List ℕ) (s w : Own) → w ≡ commit_any o kind i l s → o.n ≤ 8 → w ≡ committed_on o kind i l s
+-- for any n, and of at most eight servers all count
+pub both : (o : Opening) (kind i : ℕ) (l : List ℕ) (s w : Own) → w ≡ commit_any o kind i l s
+    → record { any : w ≡ commit_any o kind i l s; few : o.n ≤ 8 → w ≡ committed_on o kind i l s }
 unfolding commit_any
-few_commit o kind i l s w e h =
-    let m : min o.n 8 ≡ o.n = omega arith in
-    e ∙ ap (λ (n : ℕ). committed_on (record o { n = n }) kind i l s) m
+both o kind i l s w e = record {
+  any = e;
+  few = λ h.
+      let m : min o.n 8 ≡ o.n = omega arith in
+      e ∙ ap (λ (n : ℕ). committed_on (record o { n = n }) kind i l s) m;
+}

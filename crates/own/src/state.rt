@@ -25,17 +25,24 @@ pub struct Own {
     pub t: u8,
 }
 
+// The state at this kind of this block, with these values and no ask open.
+fn at(block: u64, kind: u64, own: Own) -> State
+    ensures { state_of result ≡ record { block = block; kind = kind; v = own.v; t = own.t; asked = 0 } }
+{
+    State {
+        block,
+        kind,
+        v: own.v as u64,
+        t: own.t as u64,
+        asked: 0,
+    }
+}
+
 // At first v is the input and t is unsure.
 pub fn first(input: u8) -> State
     ensures { state_of result ≡ first input }
 {
-    State {
-        block: 0,
-        kind: 0x11,
-        v: input as u64,
-        t: 2,
-        asked: 0,
-    }
+    at(0, 0x11, Own { v: input, t: 2 })
 }
 
 // The state is at a kind of a block or at the end of a plan with so many blocks.
@@ -72,27 +79,14 @@ pub fn stands(n: u8, blocks: usize, server: u8, state: State) -> bool
     false
 }
 
-// The same state with another mark of an open ask.
-fn marked(state: State, asked: u64) -> State
-    ensures { state_of result ≡ record { block = state.block; kind = state.kind; v = state.v; t = state.t; asked = asked } }
-{
-    State {
-        block: state.block,
-        kind: state.kind,
-        v: state.v,
-        t: state.t,
-        asked,
-    }
-}
-
 // The ask is open; at the end none opens.
 pub fn opened(state: State) -> State
     ensures { state_of result ≡ opened (state_of state) }
 {
     if state.kind == 0x15 {
-        return marked(state, 0);
+        return State { asked: 0, ..state };
     }
-    marked(state, 1)
+    State { asked: 1, ..state }
 }
 
 // The next kind, the next block, or the end, with these values and no ask open. After a block that
@@ -102,32 +96,14 @@ pub fn next(blocks: usize, state: State, own: Own) -> State
     ensures inside { state.block < blocks → state_of result ≡ next blocks (state_of state) (own_of own) }
 {
     if state.kind < 0x14 {
-        return State {
-            block: state.block,
-            kind: state.kind + 1,
-            v: own.v as u64,
-            t: own.t as u64,
-            asked: 0,
-        };
+        return at(state.block, state.kind + 1, own);
     }
     let end = blocks as u64;
     if state.block < end {
         let after = state.block + 1;
         if after < end {
-            return State {
-                block: after,
-                kind: 0x11,
-                v: own.v as u64,
-                t: own.t as u64,
-                asked: 0,
-            };
+            return at(after, 0x11, own);
         }
     }
-    State {
-        block: end,
-        kind: 0x15,
-        v: own.v as u64,
-        t: own.t as u64,
-        asked: 0,
-    }
+    at(end, 0x15, own)
 }

@@ -7,6 +7,7 @@ ghost use Rattle.own.specs.Arrivals.{arrivals};
 ghost use Rattle.own.specs.States.{own_of};
 ghost use Rattle.own.specs.Commits.{committed_on, commit_any};
 
+use crate::kind::Kind;
 use crate::state::Own;
 use carriage::arrival;
 use carriage::opening::Opening;
@@ -112,23 +113,27 @@ pub fn committed(
 {
     let side = opening.side;
     let quorum = opening.quorum;
-    if kind == 0x11 {
-        let begun = step1(side, server, own);
-        let receivers = sets::minus(quorum, side);
-        let t = gathered(receivers, server, arrived, due, begun);
-        return Own { v: own.v, t };
+    match Kind::from(kind) {
+        Kind::Inward => {
+            let begun = step1(side, server, own);
+            let receivers = sets::minus(quorum, side);
+            let t = gathered(receivers, server, arrived, due, begun);
+            Own { t, ..own }
+        }
+        Kind::Among => {
+            let t = compared(quorum, server, arrived, due, own.t);
+            Own { t, ..own }
+        }
+        Kind::Outward => {
+            let sound = sets::minus(sets::full(opening.n), opening.fault);
+            let receivers = sets::minus(sound, quorum);
+            let t = gathered(receivers, server, arrived, due, own.t);
+            let v = step5(sound, sets::meet(side, quorum), server, t, own.v);
+            Own { v, t }
+        }
+        Kind::Reports => {
+            let v = step6(opening.fault, server, arrived, due, own.v);
+            Own { v, ..own }
+        }
     }
-    if kind == 0x12 {
-        let t = compared(quorum, server, arrived, due, own.t);
-        return Own { v: own.v, t };
-    }
-    if kind == 0x13 {
-        let sound = sets::minus(sets::full(opening.n), opening.fault);
-        let receivers = sets::minus(sound, quorum);
-        let t = gathered(receivers, server, arrived, due, own.t);
-        let v = step5(sound, sets::meet(side, quorum), server, t, own.v);
-        return Own { v, t };
-    }
-    let v = step6(opening.fault, server, arrived, due, own.v);
-    Own { v, t: own.t }
 }

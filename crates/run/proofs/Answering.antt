@@ -9,7 +9,7 @@ use mathlib.Core.List.{List, ◌++◌}
 use Prim.Native.Nat.{ℕ}
 use lib.ListN.{drop, replicate}
 use Rattle.std.specs.Prelude.{Result, Ok, Err}
-use Rattle.refusal.specs.Refused.{Refused, refusal_of}
+use Rattle.refusal.specs.Refused.{refusal_of}
 use Rattle.refusal.specs.declared.CallGround.{CallGround}
 use Rattle.refusal.specs.declared.Refusal.{Refusal}
 use Rattle.network.specs.Links.{Links}
@@ -20,7 +20,7 @@ use Rattle.plan.specs.Answers.{checked_of}
 use Rattle.rules.specs.Blocks.{decode_blocks, decode_plan}
 use Rattle.steps.specs.Steps.{Values, held, values, run_blocks}
 use Rattle.steps.specs.Run.{check_call, run_on, run_plan, decided, written, lent_after}
-use Rattle.run.specs.Answers.{call_of, Answered}
+use Rattle.run.specs.Answers.{Answered}
 use Rattle.carriage.proofs.Accepting.{accepted_blocks}
 use Rattle.steps.proofs.Decides.{demand}
 

@@ -8,7 +8,7 @@
 use mathlib.Core.Path.{◌≡◌, refl, sym, ap, ◌∙◌}
 use mathlib.Core.List.Memᴰ
 use mathlib.Core.List.{List, [], ◌∷◌, ◌++◌, map}
-use Prim.Native.Nat.{ℕ, zero, suc, ◌+◌, ◌-◌, ◌*◌, ◌≤◌, ◌<◌, min}
+use Prim.Native.Nat.{ℕ, zero, suc, ◌+◌, ◌*◌, ◌≤◌, ◌<◌, min}
 use native.Mathlib.Omega.{arith}
 use lib.ListN.{length, length-append, length-map, length-drop}
 use Rattle.sets.specs.Sets.{minus, meet, full}
@@ -22,8 +22,8 @@ use Rattle.run.specs.Speaking.{bits_of, works_of}
 use Rattle.carriage.specs.Openings.{ReportOf, Runnable, Ready, block_at}
 use Rattle.carriage.specs.Passing.{Passed}
 use Rattle.carriage.specs.declared.opening.Opening.{Opening}
-use Rattle.carriage.specs.declared.block.Block as Code
-use Rattle.carriage.specs.declared.blocks.Blocks.{Blocks}
+use Rattle.carriage.specs.declared.ready_block.Block as Code
+use Rattle.carriage.specs.declared.ready_blocks.Blocks.{Blocks}
 use Rattle.carriage.proofs.Placed.{fault_is, side_is, quorum_is, inward_long, among_long, outward_long, reports_are, block_bytes}
 
 -- the six steps

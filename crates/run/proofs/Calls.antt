@@ -8,10 +8,10 @@
 -- Assumes nothing.
 use mathlib.Core.Path.{◌≡◌, refl, sym, ap, ◌∙◌}
 use mathlib.Core.Bool.{Bool, true, false}
-use mathlib.Core.List.{List, ◌++◌}
+use mathlib.Core.List.{List}
 use Prim.Native.Nat.{ℕ, ◌≤◌, ◌<◌, min}
 use lib.Dec.{eqb}
-use lib.ListN.{length, drop, replicate}
+use lib.ListN.{length}
 use borrow.Author.Tests.{eq-eqb, ne_eqb, lt-ltb, le-ltb, le-leb, lt-leb}
 use Rattle.std.specs.List.{list_all}
 use Rattle.std.specs.Prelude.{nat_lt}
@@ -20,10 +20,8 @@ use Rattle.refusal.specs.Refused.{call}
 use Rattle.sets.specs.Sets.{within, full, size}
 use Rattle.plan.specs.Check.{Totals, turned}
 use Rattle.plan.proofs.Cuts.{full_few}
-use Rattle.rules.specs.Blocks.{Block}
-use Rattle.steps.specs.Steps.{Values, held, values, run_blocks}
 use Rattle.run.proofs.Lent.{bits_all}
-use Rattle.steps.specs.Run.{are_bits, check_call, decided}
+use Rattle.steps.specs.Run.{are_bits, check_call}
 
 -- the inputs are bits where the test says so
 pub passed_bits : (inputs : List ℕ) (b : Bool) → b ≡ list_all (λ (x : ℕ). nat_lt x 2) inputs → b ≡ true → are_bits inputs ≡ true

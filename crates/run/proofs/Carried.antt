@@ -1,27 +1,27 @@
 -- What carriages over routes bring, on plain lists. The loop goes over the routes of a block.
 --     brought_is    what the route's carriage brings
 --     heard_next    one carriage more
+--     along         the walk along a route
 --     Arriving, ..  the loop: arrivals_start, arrivals_go, arrivals_end
---     along         the walk along the next route
 -- Assumes nothing.
-use mathlib.Core.Path.{◌≡◌, refl, sym, ◌∙◌}
+use mathlib.Core.Path.{◌≡◌, refl, sym, ap, ◌∙◌}
 use mathlib.Core.Bool.{Bool, cond}
 use mathlib.Core.List.{List, [], ◌∷◌, ◌++◌, map}
-use Prim.Native.Nat.{ℕ, suc, ◌+◌, ◌-◌, ◌*◌, ◌≤◌, ◌<◌}
+use Prim.Native.Nat.{ℕ, suc, ◌+◌, ◌≤◌, ◌<◌}
 use native.Mathlib.Omega.{arith}
 use lib.ListN.{length, get_or, take}
 use lib.Seq.{get_or-take}
 use lib.Dec.{eqb}
 use Rattle.facts.proofs.Bools.{cases}
-use Rattle.facts.specs.Lists.{Each}
 use Rattle.route.specs.Route.{path}
-use Rattle.rules.specs.Blocks.{Carriage, carriage_of, routes_at}
+use Rattle.rules.specs.Blocks.{Route, Carriage, carriage_of, routes_at}
+use Rattle.rules.proofs.Groups.{routes_length}
 use Rattle.steps.specs.Hearing.{hit, message, brought, heard}
 use Rattle.carriage.specs.declared.walk.Walk.{Walk}
 use Rattle.carriage.specs.Walks.{Walked}
-use Rattle.carriage.specs.Openings.{Servers}
+use Rattle.carriage.specs.Openings.{RoutesThere, RouteThere}
 use Rattle.carriage.proofs.Walking.{walked_route}
-use Rattle.carriage.proofs.Routes.{before_is, receiver_is, operand, Ahead, ahead_starts, ahead_goes, routes_none, routes_next, route_wide, route_two, route_server}
+use Rattle.carriage.proofs.Operands.{before_is, receiver_is, route_server}
 use Rattle.run.specs.Speaking.{Adds, Speaks}
 use Rattle.run.specs.declared.hearing.Against.{Against}
 use Rattle.run.proofs.Speaking.{adds_none, adds_then, adds_speaks}
@@ -55,52 +55,54 @@ pub record OnRoute (X : ℕ) (s : List ℕ) (r : Walk) : Type 0 where
   pub to_server : get_or s r.end 0 < 8
   pub hit : r.hit ≡ hit X (take r.end s)
 
+-- the walk along a route of a block
+pub along : (X : ℕ) (s : List ℕ) → RouteThere s → (r : Walk) → Walked X s r → OnRoute X s r
+along X s there r w =
+    let (end, one, few, hit) = walked_route s there.wide there.servers.two X r w in
+    record {
+      end = end;
+      some = one;
+      few = few;
+      wide = there.wide;
+      from_server = route_server s there r.end end few 0 (omega arith);
+      to_server = route_server s there r.end end few r.end (omega arith);
+      hit = hit;
+    }
+
 -- k routes are behind: with what those left bring, what is held so far becomes what the whole speaks against
-pub record Arriving (X : ℕ) (table : List ℕ) (first : ℕ) (source : ℕ → ℕ) (block : List ℕ) (count : ℕ) (whole : ℕ → List ℕ) (against : Against) (at k : ℕ) : Type 0 where
-  pub ahead : Ahead block count at k
-  pub same : (b : Against) → Adds against (heard X table (first + k) source (map carriage_of (routes_at block at (count - k)))) b → Speaks whole b
+pub record Arriving (X : ℕ) (table : List ℕ) (first : ℕ) (source : ℕ → ℕ) (whole : ℕ → List ℕ) (against : Against) (left : List Route) (k : ℕ) : Type 0 where
+  pub few : k + length left ≤ 1048576
+  pub same : (b : Against) → Adds against (heard X table (first + k) source (map carriage_of left)) b → Speaks whole b
 
-pub arrivals_start : (X : ℕ) (table : List ℕ) (first : ℕ) (source : ℕ → ℕ) (block : List ℕ) (count place : ℕ)
-    → place + 9 * count ≤ length block → Each Servers (routes_at block place count)
-    → Arriving X table first source block count (heard X table first source (map carriage_of (routes_at block place count))) (record { zero = 0; one = 0 }) place 0
-arrivals_start X table first source block count place fits servers =
-    let z : count - 0 ≡ count = omega arith in
-    let y : first + 0 ≡ first = omega arith in
-    record { ahead = ahead_starts block count place fits servers; same = rw (z, y) (λ b h. adds_speaks _ b h) }
+module _ (X : ℕ) (table : List ℕ) (first : ℕ) (source : ℕ → ℕ) where
+  pub arrivals_start : (s : List ℕ) (at count : ℕ) → RoutesThere s at count
+      → Arriving X table first source (heard X table first source (map carriage_of (routes_at s at count))) (record { zero = 0; one = 0 }) (routes_at s at count) 0
+  arrivals_start s at count there =
+      let y : first + 0 ≡ first = omega arith in
+      let l = routes_length s at count in
+      let f = there.fits in
+      let g = there.short in
+      record { few = omega arith; same = rw y (λ b h. adds_speaks _ b h) }
 
-module _ {X : ℕ} {table : List ℕ} {first : ℕ} {source : ℕ → ℕ} {block : List ℕ} {count : ℕ} {whole : ℕ → List ℕ} {against : Against} {at k : ℕ} (so : Arriving X table first source block count whole against at k) where
-  pub arrivals_end : count ≤ k → Speaks whole against
-  unfolding heard
-  arrivals_end h = let e = rw (routes_none block count at k h) at so.same in e against (adds_none against _ (λ i. refl))
+  module _ (whole : ℕ → List ℕ) (against : Against) (left : List Route) (k : ℕ) (so : Arriving X table first source whole against left k) where
+    pub arrivals_end : left ≡ [] → Speaks whole against
+    unfolding heard
+    arrivals_end h = let e = rw h at so.same in e against (adds_none against _ (λ i. refl))
 
-  -- there is a next route, and the walk goes along it
-  module _ (h : k < count) (r : Walk) (walk : Walked X (operand block at) r) where
-    pub along : OnRoute X (operand block at) r
-    along =
-        let a = so.ahead in
-        let wide = route_wide block count at k a h in
-        let (end, some, few, hit) = walked_route (operand block at) wide (route_two block count at k a h) X r walk in
-        record {
-          end = end;
-          some = some;
-          few = few;
-          wide = wide;
-          from_server = route_server block count at k a h r.end end few 0 (omega arith);
-          to_server = route_server block count at k a h r.end end few r.end (omega arith);
-          hit = hit;
-        }
+    module _ (s : List ℕ) (later : List Route) (is : left ≡ path (take 8 s) ∷ later) where
+      pub arrivals_fit : first ≤ 4294967296 → first + k < 18446744073709551616
+      arrivals_fit h = let f = so.few in omega arith
 
-    pub arrivals_go : (arrival : ℕ) → arrival ≡ cond r.hit (message table (first + k)) (source (get_or (operand block at) 0 0))
-        → (next : Against) → Adds against (λ (i : ℕ). cond (eqb (get_or (operand block at) r.end 0) i) (arrival ∷ []) []) next
-        → Arriving X table first source block count whole next (at + 9) (k + 1)
-    arrivals_go arrival p next q =
-        let o = operand block at in
-        let a = along in
-        let brings = brought_is o r.end a.end a.few X table (first + k) source r.hit a.hit a.some arrival p in
-        let y : first + (k + 1) ≡ suc (first + k) = omega arith in
-        let later = map carriage_of (routes_at block (at + 9) (count - (k + 1))) in
-        let all = rw (routes_next block count at k so.ahead h) at so.same in
-        record {
-          ahead = ahead_goes block count at k so.ahead h;
-          same = rw y (λ b a'. all b (adds_then against next b _ _ _ q a' (heard_next X table (first + k) source (carriage_of (path (take 8 o))) later (get_or o r.end 0) arrival (receiver_is o r.end a.end a.few) brings)));
-        }
+      pub arrivals_go : (r : Walk) → OnRoute X s r → (arrival : ℕ) → arrival ≡ cond r.hit (message table (first + k)) (source (get_or s 0 0))
+          → (next : Against) → Adds against (λ (i : ℕ). cond (eqb (get_or s r.end 0) i) (arrival ∷ []) []) next
+          → Arriving X table first source whole next later (k + 1)
+      arrivals_go r a arrival p next q =
+          let brings = brought_is s r.end a.end a.few X table (first + k) source r.hit a.hit a.some arrival p in
+          let y : first + (k + 1) ≡ suc (first + k) = omega arith in
+          let all = rw is at so.same in
+          let l = ap length is in
+          let f = so.few in
+          record {
+            few = omega arith;
+            same = rw y (λ b a'. all b (adds_then against next b _ _ _ q a' (heard_next X table (first + k) source (carriage_of (path (take 8 s))) (map carriage_of later) (get_or s r.end 0) arrival (receiver_is s r.end a.end a.few) brings)));
+          }

@@ -8,22 +8,22 @@ use mathlib.Core.Path.{◌≡◌, refl, ap}
 use mathlib.Core.Bool.{Bool, true, false, cond}
 use mathlib.Core.List.Memᴰ
 use mathlib.Core.List.{List, [], ◌∷◌, ◌++◌}
-use Prim.Native.Nat.{ℕ, suc, ◌+◌, ◌-◌, ◌*◌, ◌≤◌, ◌<◌}
-use native.Mathlib.Numerals.{add-one}
+use Prim.Native.Nat.{ℕ, suc, ◌+◌, ◌*◌, ◌≤◌, ◌<◌}
 use native.Mathlib.Omega.{arith}
-use lib.ListN.{length, get_or}
+use lib.ListN.{length}
 use lib.Dec.{eqb}
 use borrow.Author.Tests.{eq-eqb, ne_eqb, eqb-true, eqb-false}
 use Rattle.facts.proofs.Bools.{cases}
 use Rattle.sets.specs.Sets.{has, size}
 use Rattle.sets.proofs.Counts.{size_le}
 use Rattle.sets.specs.Members.{members}
-use Rattle.rules.specs.Blocks.{Carriage, report_from, reports_at, report_carriages}
+use Rattle.rules.specs.Blocks.{Report, Carriage, report_from, reports_at, report_carriages}
+use Rattle.rules.proofs.Reports.{reports_length}
 use Rattle.facts.specs.Lists.{Each}
 use Rattle.rules.proofs.Lists.{length_members, members_in}
 use Rattle.steps.specs.Hearing.{hit, message, brought, heard}
 use Rattle.run.specs.Speaking.{Adds, Speaks, reported}
-use Rattle.carriage.specs.Openings.{ReportOf}
+use Rattle.carriage.specs.Openings.{ReportOf, ReportsThere}
 use Rattle.run.specs.declared.hearing.Against.{Against}
 use Rattle.run.proofs.Speaking.{adds_none, adds_then, adds_speaks}
 
@@ -47,29 +47,29 @@ module _ (X : ℕ) (table : List ℕ) (first : ℕ) (h : ℕ → ℕ) (before : 
   abbrev pub Told : (number left : ℕ) → ℕ → List ℕ
   Told number left i = cond (eqb r i) (reported X table number h (members left)) []
 
-  pub record Telling (against : Against) (number : ℕ) (left : ℕ) : Type 0 where
-    pub few : number + length (members left) ≤ first + 8
-    pub same : (b : Against) → Adds against (Told number left) b → Adds before (Told first N) b
+  pub record Telling (against : Against) (k : ℕ) (left : ℕ) : Type 0 where
+    pub few : k + length (members left) ≤ 8
+    pub same : (b : Against) → Adds against (Told (first + k) left) b → Adds before (Told first N) b
 
-  pub telling_starts : Telling before first N
-  telling_starts = let e = length_members N in let b = size_le N in record { few = omega arith; same = λ b a. a }
+  pub telling_starts : Telling before 0 N
+  telling_starts = let e = length_members N in let b = size_le N in let z : first + 0 ≡ first = omega arith in record { few = omega arith; same = rw z (λ b a. a) }
 
-  module _ (against : Against) (number left : ℕ) (t : Telling against number left) where
+  module _ (against : Against) (k left : ℕ) (t : Telling against k left) where
     pub telling_done : members left ≡ [] → Adds before (Told first N) against
     unfolding reported
     telling_done z = t.same against (adds_none against _ (λ i. rw z (nothing (eqb r i))))
 
     -- the lowest reporter left is taken out
     module _ (m others : ℕ) (split : members left ≡ m ∷ members others) where
-      pub telling_fits : first + 8 < 18446744073709551616 → number + 1 < 18446744073709551616
+      pub telling_fits : first + 8 < 18446744073709551616 → first + k < 18446744073709551616
       telling_fits p = let l = ap length split in let f = t.few in omega arith
 
-      module _ (x : ℕ) (q : x ≡ cond (has X m) (message table number) (h m)) (next : Against) (p : Adds against (λ (i : ℕ). cond (eqb r i) (x ∷ []) []) next) where
-        told_turn : (i : ℕ) → Told number left i ≡ cond (eqb r i) (x ∷ []) [] ++ Told (number + 1) others i
+      module _ (x : ℕ) (q : x ≡ cond (has X m) (message table (first + k)) (h m)) (next : Against) (p : Adds against (λ (i : ℕ). cond (eqb r i) (x ∷ []) []) next) where
+        told_turn : (i : ℕ) → Told (first + k) left i ≡ cond (eqb r i) (x ∷ []) [] ++ Told (first + (k + 1)) others i
         unfolding reported
-        told_turn i = let e = add-one number in rw (split, e, q) (in_turn (eqb r i) _ _)
+        told_turn i = let e : first + (k + 1) ≡ suc (first + k) = omega arith in rw (split, e, q) (in_turn (eqb r i) _ _)
 
-        pub telling_goes : Telling next (number + 1) others
+        pub telling_goes : Telling next (k + 1) others
         telling_goes =
             let l = ap length split in
             let f = t.few in
@@ -114,55 +114,47 @@ module _ (X : ℕ) (table : List ℕ) (h : ℕ → ℕ) (r : ℕ) (rest : List C
       (λ e. let z = eqb-true r i e in rw e (rw (← z, ← b) (heard_mine k (members N))))
       (λ e. rw e (rw (← b) (heard_other k (members N) i (eqb-false r i e))))
 
-module _ (X : ℕ) (table : List ℕ) (first : ℕ) (h : ℕ → ℕ) (s : List ℕ) (place count each : ℕ) where
-  -- what each server hears of k commands from a place on
-  abbrev Hears : (at number k : ℕ) → ℕ → List ℕ
-  Hears at number k = heard X table number h (report_carriages (reports_at s at k))
+-- the reports of these commands are still to come: with them, what is held becomes what the whole speaks against
+pub record Gathering (X : ℕ) (table : List ℕ) (h : ℕ → ℕ) (whole : ℕ → List ℕ) (each : ℕ) (against : Against) (left : List Report) (number : ℕ) : Type 0 where
+  pub most : each ≤ 8
+  pub few : number + 8 * length left ≤ 17179869184
+  pub told : Each (ReportOf each) left
+  pub so : (b : Against) → Adds against (heard X table number h (report_carriages left)) b → Speaks whole b
 
-  pub record Gathering (against : Against) (at number k : ℕ) : Type 0 where
-    pub within : k ≤ count
-    pub here : at ≡ place + 3 * k
-    pub few : number ≤ first + 8 * k
-    pub reports : Each (ReportOf each) (reports_at s at (count - k))
-    pub so : (b : Against) → Adds against (Hears at number (count - k)) b → Speaks (Hears place first count) b
+module _ (X : ℕ) (table : List ℕ) (h : ℕ → ℕ) where
+  pub gathering_starts : (first : ℕ) → first ≤ 4294967296 → (s : List ℕ) (at count each : ℕ) → ReportsThere s at count each
+      → Gathering X table h (heard X table first h (report_carriages (reports_at s at count))) each (record { zero = 0; one = 0 }) (reports_at s at count) first
+  gathering_starts first low s at count each there =
+      let l = reports_length s at count in
+      let f = there.fits in
+      let g = there.short in
+      record { most = there.few; few = omega arith; told = there.told; so = λ b a. adds_speaks _ b a }
 
-  pub gathering_starts : Each (ReportOf each) (reports_at s place count) → Gathering (record { zero = 0; one = 0 }) place first 0
-  gathering_starts e =
-      let z : count - 0 ≡ count = omega arith in
-      record {
-        within = omega arith;
-        here = omega arith;
-        few = omega arith;
-        reports = rw z e;
-        so = rw z (λ b a. adds_speaks _ b a);
-      }
+  module _ (whole : ℕ → List ℕ) (each : ℕ) (against : Against) (left : List Report) (number : ℕ) (g : Gathering X table h whole each against left number) where
+    pub gathering_done : left ≡ [] → Speaks whole against
+    unfolding heard report_carriages
+    gathering_done l = let w = rw l at g.so in w against (adds_none against _ (λ i. refl))
 
-  module _ (against : Against) (at number k : ℕ) (g : Gathering against at number k) where
-    pub gathering_done : count ≤ k → Speaks (Hears place first count) against
-    unfolding heard report_carriages reports_at
-    gathering_done l = let z : count - k ≡ 0 = omega arith in let w = rw z at g.so in w against (adds_none against _ (λ i. refl))
+    module _ (r N : ℕ) (later : List Report) (is : left ≡ record { receiver = r; reporters = N } ∷ later) where
+      pub gathering_eight : r < 8
+      gathering_eight = let e = rw is at g.told in (e _ (Memᴰ.head refl)).eight
 
-    module _ (l : k < count) where
-      next_report : reports_at s at (count - k) ≡ record { receiver = get_or s (at + 1) 0; reporters = get_or s (at + 2) 0 } ∷ reports_at s (at + 3) (count - (k + 1))
-      unfolding reports_at
-      next_report = let z : count - k ≡ suc (count - (k + 1)) = omega arith in rw z refl
+      pub gathering_fits : number + 8 < 18446744073709551616
+      gathering_fits = let f = g.few in omega arith
 
-      pub gathering_eight : get_or s (at + 1) 0 < 8
-      gathering_eight = let e = rw next_report at g.reports in (e _ (Memᴰ.head refl)).eight
-
-      module _ (next : Against) (q : Adds against (λ (i : ℕ). cond (eqb (get_or s (at + 1) 0) i) (reported X table number h (members (get_or s (at + 2) 0))) []) next) (most : each ≤ 8) where
-        pub gathering_goes : Gathering next (at + 3) (number + each) (k + 1)
+      module _ (next : Against) (q : Adds against (λ (i : ℕ). cond (eqb r i) (reported X table number h (members N)) []) next) where
+        pub gathering_goes : Gathering X table h whole each next later (number + each)
         unfolding report_carriages
         gathering_goes =
-            let r = get_or s (at + 1) 0 in
-            let N = get_or s (at + 2) 0 in
-            let rest = report_carriages (reports_at s (at + 3) (count - (k + 1))) in
-            let w = rw next_report at g.so in
-            let exact : size N ≡ each = (let a = rw next_report at g.reports in (a _ (Memᴰ.head refl)).exact) in
+            let w = rw is at g.so in
+            let told = rw is at g.told in
+            let exact : size N ≡ each = (told _ (Memᴰ.head refl)).exact in
+            let m = g.most in
+            let f = g.few in
+            let l = ap length is in
             record {
-              within = omega arith;
-              here = omega (arith, g.here);
-              few = omega (arith, g.few);
-              reports = let a = rw next_report at g.reports in λ x m. a x (Memᴰ.tail m);
-              so = rw (← exact) (λ b a. w b (adds_then against next b _ _ _ q a (command_turn X table h r rest number N)));
+              most = g.most;
+              few = omega arith;
+              told = λ x e. told x (Memᴰ.tail e);
+              so = rw (← exact) (λ b a. w b (adds_then against next b _ _ _ q a (command_turn X table h r (report_carriages later) number N)));
             }

@@ -9,22 +9,23 @@ ghost use Rattle.steps.specs.Run.{are_bits, check_call, decided};
 ghost use Rattle.run.specs.Speaking.{bits_of, works_of};
 ghost use Rattle.run.specs.Answers.{values_of, call_of, Answered};
 
+use crate::hearing::Faults;
 use crate::values::Values;
 use crate::{block, hearing};
-use carriage::blocks::Blocks;
+use carriage::ready_blocks::Blocks;
 use network::Network;
 use plan::check;
 use plan::check::Totals;
 use refusal::{CallGround, Refusal};
 
 // The blocks of an accepted plan, in plan order.
-fn run_blocks(plan: &Blocks, start: Values, faulty: u8, table: &[u8]) -> Values
-    ensures { values_of result ≡ run_blocks plan.now.n faulty table.now 0 (decode_blocks plan.now.n plan.now.f plan.now.rest.now plan.now.left) (values_of start) }
+fn run_blocks(plan: &Blocks, start: Values, faults: &Faults) -> Values
+    ensures { values_of result ≡ run_blocks plan.now.n faults.now.servers faults.now.table.now 0 (decode_blocks plan.now.n plan.now.f plan.now.rest.now plan.now.left) (values_of start) }
 {
     let mut values = start;
     let mut number: usize = 0;
     for part in *plan {
-        let next = block::run_block(values, &part, faulty, table, number);
+        let next = block::run_block(values, &part, faults, number);
         values = next;
         number = number + part.opening.carriages;
     }
@@ -113,7 +114,11 @@ pub fn run(
         rest: plan,
         left: totals.blocks,
     };
-    let last = run_blocks(&blocks, first_values(inputs), faulty, table);
+    let faults = Faults {
+        servers: faulty,
+        table,
+    };
+    let last = run_blocks(&blocks, first_values(inputs), &faults);
     write(network.n, faulty, last.v, lent);
     Ok(totals)
 }

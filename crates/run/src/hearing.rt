@@ -2,13 +2,14 @@
 ghost use Rattle.std.specs.Prelude.{◌≡◌, cond, [], ◌∷◌, map, ℕ, ◌+◌, ◌*◌, ◌/◌, ◌%◌, ◌≤◌, ◌<◌, eqb, length, get_or};
 ghost use Rattle.sets.specs.Sets.{has};
 ghost use Rattle.sets.specs.Members.{members};
-ghost use Rattle.rules.specs.Blocks.{routes_at, reports_at, carriage_of, report_carriages};
-ghost use Rattle.facts.specs.Lists.{Each};
+ghost use Rattle.rules.specs.Blocks.{carriage_of, report_carriages};
 ghost use Rattle.steps.specs.Hearing.{hit, message, heard};
 ghost use Rattle.steps.specs.Steps.{held};
 ghost use Rattle.run.specs.Speaking.{bit_of, work_of, bits_of, works_of, Adds, Speaks, reported};
-ghost use Rattle.carriage.specs.Openings.{Servers, ReportOf};
+ghost use Rattle.carriage.specs.Passing.{routes_of, reports_of};
 
+use carriage::ready_reports::Reports;
+use carriage::ready_routes::Routes;
 use carriage::{arrival, walk};
 
 // What the arrivals of a step speak against, server by server.
@@ -18,6 +19,13 @@ pub struct Against {
     pub zero: u8,
     // The servers with an arrival other than 1.
     pub one: u8,
+}
+
+// The faulty servers, and the table of the messages that they send.
+#[derive(Clone, Copy, Drop)]
+pub(crate) struct Faults<'a> {
+    pub(crate) servers: u8,
+    pub(crate) table: &'a [u8],
 }
 
 // Both sets from one number, the second times 256. What a function hands back as two bytes the
@@ -86,53 +94,39 @@ fn spoken(zero: u8, one: u8, receiver: u8, arrival: u8) -> Against
     }
 }
 
-// What the arrivals over `count` routes speak against, where the sources send their t; both sets as
+// What the arrivals over these routes speak against, where the sources send their t; both sets as
 // one number.
-pub(crate) fn over_routes(
-    faulty: u8,
-    table: &[u8],
-    first: usize,
-    sure: u8,
-    ones: u8,
-    block: &[u8],
-    place: usize,
-    count: usize,
-) -> u16
-    requires { (place + 9 * count ≤ length block.now) × Each Servers (routes_at block.now place count) × (first + count < 18446744073709551616) }
-    ensures { Speaks (heard faulty table.now first (held (works_of sure ones)) (map carriage_of (routes_at block.now place count))) (record { zero = result % 256; one = result / 256 }) }
+pub(crate) fn over_routes(faults: &Faults, first: usize, sure: u8, ones: u8, routes: Routes) -> u16
+    requires { first ≤ 4294967296 }
+    ensures { Speaks (heard faults.now.servers faults.now.table.now first (held (works_of sure ones)) (map carriage_of (routes_of routes.entry))) (record { zero = result % 256; one = result / 256 }) }
 {
     let mut zero: u8 = 0;
     let mut one: u8 = 0;
-    let mut at = place;
-    for k in 0..count {
-        let operand_at = at + 1;
-        let operand = &block[operand_at..];
-        let route = walk::walked(faulty, operand);
-        let arrival = brought(route.hit, table, first + k, sure, ones, operand[0]);
-        let end = route.end;
-        let next = spoken(zero, one, operand[end], arrival);
+    for (k, route) in routes.enumerate() {
+        let operand = route.operand;
+        let way = walk::walked(faults.servers, operand);
+        let arrival = brought(way.hit, faults.table, first + k, sure, ones, operand[0]);
+        let next = spoken(zero, one, operand[way.end], arrival);
         zero = next.zero;
         one = next.one;
-        at = at + 9;
     }
     (one as u16) * 256 + (zero as u16)
 }
 
 // What the report of server m brings, where `ones` are the servers whose v is 1.
-fn reported(faulty: u8, table: &[u8], number: usize, ones: u8, m: u8) -> u8
+fn reported(faults: &Faults, number: usize, ones: u8, m: u8) -> u8
     requires { m < 8 }
-    ensures { result ≡ cond (has faulty m) (message table.now number) (get_or (bits_of ones) m 0) }
+    ensures { result ≡ cond (has faults.now.servers m) (message faults.now.table.now number) (get_or (bits_of ones) m 0) }
 {
-    if sets::member(faulty, m) {
-        return arrival::message(table, number);
+    if sets::member(faults.servers, m) {
+        return arrival::message(faults.table, number);
     }
     bit(ones, m)
 }
 
 // What the reports of these servers to one receiver speak against, beside what came before.
 fn over_report(
-    faulty: u8,
-    table: &[u8],
+    faults: &Faults,
     first: usize,
     ones: u8,
     before: Against,
@@ -140,43 +134,36 @@ fn over_report(
     reporters: u8,
 ) -> Against
     requires { (first + 8 < 18446744073709551616) × (receiver < 8) }
-    ensures { Adds before (λ (i : ℕ). cond (eqb receiver i) (reported faulty table.now first (held (bits_of ones)) (members reporters)) []) result }
+    ensures { Adds before (λ (i : ℕ). cond (eqb receiver i) (reported faults.now.servers faults.now.table.now first (held (bits_of ones)) (members reporters)) []) result }
 {
     let mut against = before;
-    let mut number = first;
-    for m in sets::ascending(reporters) {
-        let arrival = reported(faulty, table, number, ones, m);
+    for (k, m) in sets::ascending(reporters).enumerate() {
+        let arrival = reported(faults, first + k, ones, m);
         let next = spoken(against.zero, against.one, receiver, arrival);
         against = next;
-        number = number + 1;
     }
     against
 }
 
-// What the reports of `count` commands speak against; each command has so many.
-pub(crate) fn over_reports(
-    faulty: u8,
-    table: &[u8],
-    first: usize,
-    ones: u8,
-    block: &[u8],
-    place: usize,
-    count: usize,
-    each: usize,
-) -> Against
-    requires { (place + 3 * count ≤ length block.now) × Each (ReportOf each) (reports_at block.now place count) × (each ≤ 8) × (first + 8 * count + 8 < 18446744073709551616) }
-    ensures { Speaks (heard faulty table.now first (held (bits_of ones)) (report_carriages (reports_at block.now place count))) result }
+// What these reports speak against.
+pub(crate) fn over_reports(faults: &Faults, first: usize, ones: u8, reports: Reports) -> Against
+    requires { first ≤ 4294967296 }
+    ensures { Speaks (heard faults.now.servers faults.now.table.now first (held (bits_of ones)) (report_carriages (reports_of reports.entry))) result }
 {
+    let each = reports.each;
     let mut against = Against { zero: 0, one: 0 };
-    let mut at = place;
     let mut number = first;
-    for k in 0..count {
-        let receiver = block[at + 1];
-        let reporters = block[at + 2];
-        let next = over_report(faulty, table, number, ones, against, receiver, reporters);
+    for report in reports {
+        let next = over_report(
+            faults,
+            number,
+            ones,
+            against,
+            report.receiver,
+            report.reporters,
+        );
         against = next;
         number = number + each;
-        at = at + 3;
     }
     against
 }

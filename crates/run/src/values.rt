@@ -8,8 +8,8 @@ ghost use Rattle.run.specs.Speaking.{work_of, bits_of, works_of, replaced, alike
 ghost use Rattle.carriage.specs.Openings.{block_at};
 
 use crate::hearing;
-use crate::hearing::Against;
-use carriage::block::Block;
+use crate::hearing::{Against, Faults};
+use carriage::ready_block::Block;
 
 // A value is held as a set of servers, so that a step changes all servers at the same time.
 #[derive(Drop)]
@@ -64,21 +64,12 @@ impl Values {
     }
 
     // 2. Each receiver of S−A: t is the common value if its arrivals are alike, else 2.
-    pub(crate) fn step2(mut self, block: &Block, faulty: u8, table: &[u8], number: usize) -> Values
+    pub(crate) fn step2(mut self, block: &Block, faults: &Faults, number: usize) -> Values
         requires { number ≤ 1048576 }
-        ensures { (result.v ≡ self.v) × (works_of result.sure result.t ≡ gather faulty table.now number (map carriage_of (block_at block.now.opening block.now.bytes.now).inward) (minus block.now.opening.quorum block.now.opening.side) (works_of self.sure self.t)) }
+        ensures { (result.v ≡ self.v) × (works_of result.sure result.t ≡ gather faults.now.servers faults.now.table.now number (map carriage_of (block_at block.now.opening block.now.bytes.now).inward) (minus block.now.opening.quorum block.now.opening.side) (works_of self.sure self.t)) }
     {
         let opening = block.opening;
-        let inward = hearing::over_routes(
-            faulty,
-            table,
-            number,
-            self.sure,
-            self.t,
-            block.bytes,
-            4,
-            opening.inward,
-        );
+        let inward = hearing::over_routes(faults, number, self.sure, self.t, block.inward());
         let against = hearing::unpacked(inward);
         let after = self.gathered(sets::minus(opening.quorum, opening.side), against);
         self = after;
@@ -86,22 +77,13 @@ impl Values {
     }
 
     // 3. All of S at the same time: t is kept if every arrival equals it, else 2.
-    pub(crate) fn step3(mut self, block: &Block, faulty: u8, table: &[u8], number: usize) -> Values
+    pub(crate) fn step3(mut self, block: &Block, faults: &Faults, number: usize) -> Values
         requires { number ≤ 1048576 }
-        ensures { (result.v ≡ self.v) × (works_of result.sure result.t ≡ compare faulty table.now (number + block.now.opening.inward) (map carriage_of (block_at block.now.opening block.now.bytes.now).among) block.now.opening.quorum (works_of self.sure self.t)) }
+        ensures { (result.v ≡ self.v) × (works_of result.sure result.t ≡ compare faults.now.servers faults.now.table.now (number + block.now.opening.inward) (map carriage_of (block_at block.now.opening block.now.bytes.now).among) block.now.opening.quorum (works_of self.sure self.t)) }
     {
         let opening = block.opening;
-        let place = 4 + 9 * opening.inward;
-        let among = hearing::over_routes(
-            faulty,
-            table,
-            number + opening.inward,
-            self.sure,
-            self.t,
-            block.bytes,
-            place,
-            opening.among,
-        );
+        let first = number + opening.inward;
+        let among = hearing::over_routes(faults, first, self.sure, self.t, block.among());
         let against = hearing::unpacked(among);
         // Against 1 for a server whose t is 1, else against 0.
         let differs = replaced(against.zero, self.t, against.one);
@@ -111,23 +93,13 @@ impl Values {
     }
 
     // 4. Each receiver of V−F−S as in step 2.
-    pub(crate) fn step4(mut self, block: &Block, faulty: u8, table: &[u8], number: usize) -> Values
+    pub(crate) fn step4(mut self, block: &Block, faults: &Faults, number: usize) -> Values
         requires { number ≤ 1048576 }
-        ensures { (result.v ≡ self.v) × (works_of result.sure result.t ≡ gather faulty table.now (number + block.now.opening.inward + block.now.opening.among) (map carriage_of (block_at block.now.opening block.now.bytes.now).outward) (minus (minus (full block.now.opening.n) block.now.opening.fault) block.now.opening.quorum) (works_of self.sure self.t)) }
+        ensures { (result.v ≡ self.v) × (works_of result.sure result.t ≡ gather faults.now.servers faults.now.table.now (number + block.now.opening.inward + block.now.opening.among) (map carriage_of (block_at block.now.opening block.now.bytes.now).outward) (minus (minus (full block.now.opening.n) block.now.opening.fault) block.now.opening.quorum) (works_of self.sure self.t)) }
     {
         let opening = block.opening;
-        let earlier = opening.inward + opening.among;
-        let place = 4 + 9 * earlier;
-        let outward = hearing::over_routes(
-            faulty,
-            table,
-            number + earlier,
-            self.sure,
-            self.t,
-            block.bytes,
-            place,
-            opening.outward,
-        );
+        let first = number + opening.inward + opening.among;
+        let outward = hearing::over_routes(faults, first, self.sure, self.t, block.outward());
         let against = hearing::unpacked(outward);
         let sound = sets::minus(sets::full(opening.n), opening.fault);
         let after = self.gathered(sets::minus(sound, opening.quorum), against);
@@ -147,24 +119,13 @@ impl Values {
 
     // 6. Each k of F: if its arrivals, the values v after step 5, are alike and 0 or 1, v becomes
     // that.
-    pub(crate) fn step6(mut self, block: &Block, faulty: u8, table: &[u8], number: usize) -> Values
+    pub(crate) fn step6(mut self, block: &Block, faults: &Faults, number: usize) -> Values
         requires { number ≤ 1048576 }
-        ensures { (bits_of result.v ≡ step6 faulty table.now (number + block.now.opening.inward + block.now.opening.among + block.now.opening.outward) (report_carriages (block_at block.now.opening block.now.bytes.now).reports) block.now.opening.fault (bits_of self.v)) × (result.sure ≡ self.sure) × (result.t ≡ self.t) }
+        ensures { (bits_of result.v ≡ step6 faults.now.servers faults.now.table.now (number + block.now.opening.inward + block.now.opening.among + block.now.opening.outward) (report_carriages (block_at block.now.opening block.now.bytes.now).reports) block.now.opening.fault (bits_of self.v)) × (result.sure ≡ self.sure) × (result.t ≡ self.t) }
     {
         let opening = block.opening;
-        let earlier = opening.inward + opening.among + opening.outward;
-        let place = 4 + 9 * earlier;
-        let each = (opening.f as usize) + 1;
-        let against = hearing::over_reports(
-            faulty,
-            table,
-            number + earlier,
-            self.v,
-            block.bytes,
-            place,
-            opening.reports,
-            each,
-        );
+        let first = number + opening.inward + opening.among + opening.outward;
+        let against = hearing::over_reports(faults, first, self.v, block.reports());
         let told = sets::meet(opening.fault, alike(against));
         let v = replaced(self.v, told, against.zero);
         self.v = v;

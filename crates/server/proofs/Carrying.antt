@@ -1,79 +1,56 @@
--- The carriages of a kind, by their place in the block.
---     kind_inward, ..    which they are
---     inward_there, ..   all their bytes are there and name servers
---     inward_few, ..     they are at most 56
---     given_kind, ..     a count over them
+-- The carriages of a kind of a block, as the code counts them.
+--     sent_routes, ..   those that a server sends on, over routes or as reports; due_routes, ..: those that come to it
+--     kind_counts       a word that counts as a kind has its carriages
 -- Assumes nothing.
 use mathlib.Core.Path.{◌≡◌, refl, sym, ap, ◌∙◌}
 use mathlib.Core.List.{List, [], map}
-use Prim.Native.Nat.{ℕ, ◌+◌, ◌*◌, ◌≤◌}
+use Prim.Native.Nat.{ℕ, ◌*◌, ◌≤◌, ◌<◌}
+use native.Mathlib.Nat.{mul-le-mul}
 use native.Mathlib.Omega.{arith}
+use Rattle.std.proofs.lemmas.List.Sums.{count_by-le-length}
+use lib.Dec.{eqb}
 use lib.ListN.{length}
 use borrow.Author.Tests.{ne_eqb}
+use Rattle.std.specs.Prelude.{count_by}
 use Rattle.facts.specs.Lists.{Each}
-use Rattle.sets.specs.Sets.{minus, full, size}
-use Rattle.sets.proofs.Counts.{size_le}
-use Rattle.rules.specs.Blocks.{Carriage, routes_at, reports_at, carriage_of, report_carriages, inward_due, among_due, outward_due}
-use Rattle.carriage.specs.declared.opening.Opening.{Opening}
-use Rattle.carriage.specs.Openings.{Servers, ReportOf, Ready, block_at}
-use Rattle.carriage.proofs.Placed.{block_inward, block_among, block_outward, block_reports, block_fits, inward_servers, among_servers, outward_servers, reports_servers, reports_few}
-use Rattle.part.specs.Own.{given, received, carriages_of}
-use Rattle.part.proofs.Short.{fan_short, mesh_short}
+use Rattle.sets.specs.Sets.{has}
+use Rattle.rules.specs.Blocks.{Route, Report, Block, carriage_of, report_carriages, reports_at}
+use Rattle.rules.proofs.Reports.{reports_length}
+use Rattle.carriage.specs.Openings.{ReportOf, ReportsThere}
+use Rattle.part.specs.Own.{source, given, received, carriages_of}
+use Rattle.own.specs.declared.kind.Kind.{Kind}
+use Rattle.own.specs.Kinds.{Counts, word_of}
+use Rattle.server.proofs.Tallies.{given_routes, received_routes, given_reports, received_reports}
 
-module _ (o : Opening) (s : List ℕ) (r : Ready o s) (kind : ℕ) where
-  pub kind_inward : kind ≡ 0x11 → map carriage_of (routes_at s 4 o.inward) ≡ carriages_of kind (block_at o s)
-  unfolding carriages_of
-  kind_inward k = rw (k, block_inward o s r) refl
+module _ (i x : ℕ) where
+  module _ (ps qs : List Route) (e : ps ≡ qs) where
+    pub sent_routes : x ≡ count_by (λ (p : Route). eqb (source (carriage_of p)) i) ps → x ≡ length (given 0 i (map carriage_of qs))
+    sent_routes h = h ∙ sym (given_routes i ps) ∙ ap (λ (l : List Route). length (given 0 i (map carriage_of l))) e
 
-  module _ (a : kind ≡ 0x11 → ⊥) where
-    pub kind_among : kind ≡ 0x12 → map carriage_of (routes_at s (4 + 9 * o.inward) o.among) ≡ carriages_of kind (block_at o s)
-    unfolding carriages_of
-    kind_among k = rw (k, block_among o s r) refl
+    pub due_routes : x ≡ count_by (λ (p : Route). eqb (carriage_of p).receiver i) ps → x ≡ length (received [] 0 i (map carriage_of qs))
+    due_routes h = h ∙ sym (received_routes i ps) ∙ ap (λ (l : List Route). length (received [] 0 i (map carriage_of l))) e
 
-    module _ (b : kind ≡ 0x12 → ⊥) where
-      pub kind_outward : kind ≡ 0x13 → map carriage_of (routes_at s (4 + 9 * (o.inward + o.among)) o.outward) ≡ carriages_of kind (block_at o s)
-      unfolding carriages_of
-      kind_outward k = rw (k, block_outward o s r) refl
+  module _ (rs ss : List Report) (e : rs ≡ ss) where
+    pub sent_reports : i < 8 → x ≡ count_by (λ (r : Report). has r.reporters i) rs → x ≡ length (given 0 i (report_carriages ss))
+    sent_reports l h = h ∙ sym (given_reports i l rs) ∙ ap (λ (l : List Report). length (given 0 i (report_carriages l))) e
 
-      pub kind_reports : (kind ≡ 0x13 → ⊥) → report_carriages (reports_at s (4 + 9 * (o.inward + o.among + o.outward)) o.reports) ≡ carriages_of kind (block_at o s)
-      unfolding carriages_of
-      kind_reports c = sym (simp (ne_eqb _ _ a, ne_eqb _ _ b, ne_eqb _ _ c) (ap report_carriages (block_reports o s r)))
+    pub due_reports : (each : ℕ) → Each (ReportOf each) rs → x ≡ count_by (λ (r : Report). eqb r.receiver i) rs → x * each ≡ length (received [] 0 i (report_carriages ss))
+    due_reports each t h = ap (λ (k : ℕ). k * each) h ∙ sym (received_reports i each rs t) ∙ ap (λ (l : List Report). length (received [] 0 i (report_carriages l))) e
 
-module _ (o : Opening) (s : List ℕ) (r : Ready o s) where
-  pub inward_there : (4 + 9 * o.inward ≤ length s) × Each Servers (routes_at s 4 o.inward)
-  inward_there = let l = block_fits o s r in (omega arith, inward_servers o s r)
+-- at most as many commands as there are bytes, of at most eight reports each
+pub due_fits : (s : List ℕ) (at count each i x : ℕ) → ReportsThere s at count each → x ≡ count_by (λ (r : Report). eqb r.receiver i) (reports_at s at count) → x * each < 18446744073709551616
+due_fits s at count each i x there e =
+    let few = count_by-le-length (λ (r : Report). eqb r.receiver i) (reports_at s at count) in
+    let l = reports_length s at count in
+    let f = there.fits in
+    let g = there.short in
+    let h : x ≤ 1048576 = omega arith in
+    let p = mul-le-mul h there.few in
+    omega arith
 
-  pub among_there : (4 + 9 * o.inward + 9 * o.among ≤ length s) × Each Servers (routes_at s (4 + 9 * o.inward) o.among)
-  among_there = let l = block_fits o s r in (omega arith, among_servers o s r)
-
-  pub outward_there : (4 + 9 * (o.inward + o.among) + 9 * o.outward ≤ length s) × Each Servers (routes_at s (4 + 9 * (o.inward + o.among)) o.outward)
-  outward_there = let l = block_fits o s r in (omega arith, outward_servers o s r)
-
-  pub reports_there : (4 + 9 * (o.inward + o.among + o.outward) + 3 * o.reports ≤ length s)
-      × Each (ReportOf (o.f + 1)) (reports_at s (4 + 9 * (o.inward + o.among + o.outward)) o.reports) × (o.f + 1 ≤ 8) × (o.reports ≤ 8)
-  reports_there = let l = block_fits o s r in let f = r.bound in (omega arith, reports_servers o s r, omega arith, reports_few o s r)
-
-  -- no kind has more than 56 carriages
-
-  pub inward_few : o.inward ≤ 56
-  unfolding inward_due
-  inward_few = let e = r.opens.inward in let c = fan_short (size (minus o.quorum o.side)) o.f (size_le (minus o.quorum o.side)) r.bound in omega arith
-
-  pub among_few : o.among ≤ 56
-  unfolding among_due
-  among_few = let e = r.opens.among in let c = mesh_short (size o.quorum) (size_le o.quorum) in omega arith
-
-  pub outward_few : o.outward ≤ 56
-  unfolding outward_due
-  outward_few =
-      let e = r.opens.outward in
-      let out = minus (minus (full o.n) o.fault) o.quorum in
-      let c = fan_short (size out) o.f (size_le out) r.bound in
-      omega arith
-
-module _ (i : ℕ) (cs ds : List Carriage) (e : cs ≡ ds) (x : ℕ) where
-  pub given_kind : x ≡ length (given 0 i cs) → x ≡ length (given 0 i ds)
-  given_kind p = p ∙ ap (λ (l : List Carriage). length (given 0 i l)) e
-
-  pub received_kind : x ≡ length (received [] 0 i cs) → x ≡ length (received [] 0 i ds)
-  received_kind p = p ∙ ap (λ (l : List Carriage). length (received [] 0 i l)) e
+pub kind_counts : (w : ℕ) (k : Kind) (b : Block) → Counts w k → carriages_of (word_of k) b ≡ carriages_of w b
+unfolding carriages_of
+kind_counts w Kind.Inward b c = rw c refl
+kind_counts w Kind.Among b c = rw c refl
+kind_counts w Kind.Outward b c = rw c refl
+kind_counts w Kind.Reports b c = sym (simp (ne_eqb _ _ c.0, ne_eqb _ _ c.1, ne_eqb _ _ c.2))

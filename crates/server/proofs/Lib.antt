@@ -1,11 +1,9 @@
 -- Tallies    how many carriages of a list a server sends on, and how many come to it
--- Counting   the loops that count them
 -- Carrying   the carriages of a kind, by their place in the block
 -- Arriving   what comes to a server, as the code reads it
 -- Ways       the way to a block of the plan
 -- Turning    the grounds of a call and the answer where there is none
 pub mod Tallies
-pub mod Counting
 pub mod Carrying
 pub mod Arriving
 pub mod Ways

@@ -14,6 +14,8 @@ use native.Mathlib.Omega.{arith}
 use lib.ListN.{length}
 use lib.Dec.{eqb, ltb}
 use borrow.Author.Tests.{lt-ltb, le-ltb, ne_eqb, eqb-true, eqb-false}
+use Rattle.std.specs.Prelude.{count_by}
+use Rattle.std.proofs.lemmas.List.Sums.{sum_by-cons}
 use Rattle.facts.specs.Lists.{Each}
 use Rattle.facts.proofs.Bools.{cases}
 use Rattle.sets.specs.Sets.{Set, has}
@@ -23,29 +25,35 @@ use Rattle.rules.proofs.Lists.{length_members}
 use Rattle.carriage.specs.Openings.{ReportOf}
 use Rattle.part.specs.Own.{source, given, received}
 
-unfoldable pub tally : {A : Type 0} → (A → Bool) → List A → ℕ
+unfoldable tally : {A : Type 0} → (A → Bool) → List A → ℕ
 tally p [] = 0
 tally p (x ∷ xs) = cond (p x) 1 0 + tally p xs
 
+-- the count of the library is the same
+count_tally : {A : Type 0} (p : A → Bool) (xs : List A) → tally p xs ≡ count_by p xs
+unfolding tally
+count_tally {A = A} p [] = refl
+count_tally {A = A} p (x ∷ xs) = let ih = count_tally p xs in let e = sum_by-cons (λ (y : A). cond (p y) 1 0) x xs in omega arith
+
 -- the tests
 
-unfoldable pub starts_at : ℕ → Carriage → Bool
+unfoldable starts_at : ℕ → Carriage → Bool
 starts_at i c = eqb (source c) i
 
-unfoldable pub ends_at : ℕ → Carriage → Bool
+unfoldable ends_at : ℕ → Carriage → Bool
 ends_at i c = eqb c.receiver i
 
-unfoldable pub route_from : ℕ → Route → Bool
+unfoldable route_from : ℕ → Route → Bool
 route_from i p = starts_at i (carriage_of p)
 
-unfoldable pub route_to : ℕ → Route → Bool
+unfoldable route_to : ℕ → Route → Bool
 route_to i p = ends_at i (carriage_of p)
 
 -- a reporter is one of the eight servers that there can be
-unfoldable pub report_by : ℕ → Report → Bool
+unfoldable report_by : ℕ → Report → Bool
 report_by i r = ltb i 8 && has r.reporters i
 
-unfoldable pub report_to : ℕ → Report → Bool
+unfoldable report_to : ℕ → Report → Bool
 report_to i r = eqb r.receiver i
 
 -- any carriages
@@ -80,11 +88,13 @@ unfolding tally route_to
 to_routes i [] = refl
 to_routes i (p ∷ ps) = ap (λ (x : ℕ). cond (ends_at i (carriage_of p)) 1 0 + x) (to_routes i ps)
 
-pub given_routes : (i : ℕ) (ps : List Route) → length (given 0 i (map carriage_of ps)) ≡ tally (route_from i) ps
-given_routes i ps = given_tally 0 i (map carriage_of ps) ∙ from_routes i ps
+pub given_routes : (i : ℕ) (ps : List Route) → length (given 0 i (map carriage_of ps)) ≡ count_by (λ (p : Route). eqb (source (carriage_of p)) i) ps
+unfolding route_from starts_at
+given_routes i ps = given_tally 0 i (map carriage_of ps) ∙ from_routes i ps ∙ count_tally (route_from i) ps
 
-pub received_routes : (i : ℕ) (ps : List Route) → length (received [] 0 i (map carriage_of ps)) ≡ tally (route_to i) ps
-received_routes i ps = received_tally [] 0 i (map carriage_of ps) ∙ to_routes i ps
+pub received_routes : (i : ℕ) (ps : List Route) → length (received [] 0 i (map carriage_of ps)) ≡ count_by (λ (p : Route). eqb (carriage_of p).receiver i) ps
+unfolding route_to ends_at
+received_routes i ps = received_tally [] 0 i (map carriage_of ps) ∙ to_routes i ps ∙ count_tally (route_to i) ps
 
 -- reports: the reporters of a command are listed in order, each once
 
@@ -128,8 +138,12 @@ module _ (i : ℕ) where
       let one = from_listed r.receiver i 8 0 (has r.reporters) (omega arith) in
       tally_append (starts_at i) (report_from r.receiver (members r.reporters)) (report_carriages rs) ∙ rw (one, ih) refl
 
-  pub given_reports : (rs : List Report) → length (given 0 i (report_carriages rs)) ≡ tally (report_by i) rs
-  given_reports rs = given_tally 0 i (report_carriages rs) ∙ from_reports rs
+  given_counted : (rs : List Report) → length (given 0 i (report_carriages rs)) ≡ count_by (λ (r : Report). ltb i 8 && has r.reporters i) rs
+  unfolding report_by
+  given_counted rs = given_tally 0 i (report_carriages rs) ∙ from_reports rs ∙ count_tally (report_by i) rs
+
+  pub given_reports : i < 8 → (rs : List Report) → length (given 0 i (report_carriages rs)) ≡ count_by (λ (r : Report). has r.reporters i) rs
+  given_reports h rs = let e = lt-ltb i 8 h in rw e at (given_counted rs)
 
   to_reports : (each : ℕ) (rs : List Report) → Each (ReportOf each) rs → tally (ends_at i) (report_carriages rs) ≡ tally (report_to i) rs * each
   unfolding tally report_to report_carriages
@@ -141,5 +155,6 @@ module _ (i : ℕ) where
       let all = add-mul (cond (eqb r.receiver i) 1 0) (tally (report_to i) rs) each in
       tally_append (ends_at i) (report_from r.receiver (members r.reporters)) (report_carriages rs) ∙ rw (one, size, ih) (sym all)
 
-  pub received_reports : (each : ℕ) (rs : List Report) → Each (ReportOf each) rs → length (received [] 0 i (report_carriages rs)) ≡ tally (report_to i) rs * each
-  received_reports each rs h = received_tally [] 0 i (report_carriages rs) ∙ to_reports each rs h
+  pub received_reports : (each : ℕ) (rs : List Report) → Each (ReportOf each) rs → length (received [] 0 i (report_carriages rs)) ≡ count_by (λ (r : Report). eqb r.receiver i) rs * each
+  unfolding report_to
+  received_reports each rs h = received_tally [] 0 i (report_carriages rs) ∙ to_reports each rs h ∙ ap (λ (k : ℕ). k * each) (count_tally (report_to i) rs)

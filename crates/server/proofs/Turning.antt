@@ -9,8 +9,9 @@
 -- Assumes nothing.
 use mathlib.Core.Path.{◌≡◌, refl, sym, ap, ◌∙◌}
 use mathlib.Core.Bool.{Bool, true, false, ◌&&◌}
+use mathlib.Core.Logic.{◌⊎◌, inl, inr}
 use mathlib.Core.List.{List, [], ◌∷◌, ◌++◌}
-use Prim.Native.Nat.{ℕ, zero, suc, min, ◌+◌, ◌≤◌, ◌<◌}
+use Prim.Native.Nat.{ℕ, suc, min, ◌≤◌, ◌<◌}
 use native.Mathlib.Omega.{arith}
 use lib.Dec.{eqb, ltb}
 use lib.ListN.{length, drop, replicate}
@@ -33,6 +34,8 @@ use Rattle.part.specs.Own.{source, Own, sent, given, received, carriages_of, com
 use Rattle.part.specs.State.{State, first, is_end, placed, stands, opened, next}
 use Rattle.part.specs.Calls.{site, closed, site_of, block_of, Stepped, Asked, start_on, start_call, values_due, ask_on, ask_call, commit_on, commit_call}
 use Rattle.own.specs.declared.state.State as CodeState
+use Rattle.own.specs.declared.kind.Kind.{Kind}
+use Rattle.own.specs.Kinds.{Counts}
 use Rattle.own.specs.Arrivals.{arrivals}
 use Rattle.own.specs.States.{state_of, moved_on}
 use Rattle.own.specs.Commits.{committed_on}
@@ -95,19 +98,16 @@ unfolding given
 given_many x y i [] = refl
 given_many x y i (c ∷ cs) = cases (eqb (source c) i) (λ e. rw e (ap suc (given_many x y i cs))) (λ e. rw e (given_many x y i cs))
 
-module _ (s : State) where
-  pub value_among : s.kind ≡ 0x12 → s.t ≡ value_of s
+module _ (s : State) (k : Kind) (counts : Counts s.kind k) where
+  pub value_works : (k ≡ Kind.Among) ⊎ (k ≡ Kind.Outward) → s.t ≡ value_of s
   unfolding value_of sent
-  value_among e = let a = eq-eqb _ _ e in sym (simp a)
+  value_works (inl e) = let w = rw e at counts in rw w refl
+  value_works (inr e) = let w = rw e at counts in rw w refl
 
-  module _ (o : s.kind ≡ 0x12 → ⊥) where
-    pub value_outward : s.kind ≡ 0x13 → s.t ≡ value_of s
-    unfolding value_of sent
-    value_outward e = let a = ne_eqb _ _ o in let b = eq-eqb _ _ e in sym (simp (a, b))
-
-    pub value_other : (s.kind ≡ 0x13 → ⊥) → s.v ≡ value_of s
-    unfolding value_of sent
-    value_other e = let a = ne_eqb _ _ o in let b = ne_eqb _ _ e in sym (simp (a, b))
+  pub value_bits : (k ≡ Kind.Inward) ⊎ (k ≡ Kind.Reports) → s.v ≡ value_of s
+  unfolding value_of sent
+  value_bits (inl e) = let w = rw e at counts in rw w refl
+  value_bits (inr e) = let w = rw e at counts in sym (simp (ne_eqb _ _ w.1, ne_eqb _ _ w.2))
 
 module _ (n f : ℕ) (plan : List ℕ) (i : ℕ) (s : State) where
   pub values_end : s.kind ≡ 0x15 → 1 ≡ length (values_due n f plan i s)
@@ -191,6 +191,10 @@ module _ (n blocks i : ℕ) (code : CodeState.State) (ok : Bool) (is : ok ≡ (l
   module _ (yes' : ok ≡ true) where
     on : (ltb i n && stands blocks (state_of code)) ≡ true
     on = sym is ∙ yes'
+
+    -- one of the eight servers that there can be
+    pub server_eight : n ≤ 8 → i < 8
+    server_eight h = let l = ltb-true i n (and_left (ltb i n) (stands blocks (state_of code)) on) in omega arith
 
     pub stood : Stood blocks (state_of code)
     stood = stood_by blocks (state_of code) (and_right (ltb i n) (stands blocks (state_of code)) on)

@@ -3,18 +3,17 @@
 --     way_some     a block that the plan has is reached
 --     way_block    it is that block
 -- Assumes nothing.
-use mathlib.Core.Path.{◌≡◌, refl, sym, ap, ◌∙◌}
+use mathlib.Core.Path.{◌≡◌, refl, ◌∙◌}
 use mathlib.Core.List.{List, [], ◌∷◌}
-use Prim.Native.Nat.{ℕ, zero, suc, ◌+◌, ◌≤◌, ◌<◌}
+use Prim.Native.Nat.{ℕ, ◌+◌, ◌<◌}
 use native.Mathlib.Omega.{arith}
 use lib.ListN.{length}
 use Rattle.std.specs.Prelude.{Option, Some, None, IsSome}
 use Rattle.std.specs.Iterator.{Yields, SkipsThenYields}
-use Rattle.rules.specs.Blocks.{decode_block}
-use Rattle.carriage.specs.declared.block.Block as Code
-use Rattle.carriage.specs.declared.blocks.Blocks.{Blocks}
+use Rattle.carriage.specs.declared.ready_block.Block as Code
+use Rattle.carriage.specs.declared.ready_blocks.Blocks.{Blocks}
 use Rattle.carriage.specs.Openings.{block_at}
-use Rattle.carriage.specs.Passing.{Passed, Passing}
+use Rattle.carriage.specs.Passing.{Passing}
 use Rattle.part.specs.Calls.{from_block, block_of}
 
 -- so many blocks are passed over

@@ -11,11 +11,10 @@ use Rattle.refusal.specs.declared.CallGround.{CallGround}
 use Rattle.refusal.specs.Refused.{Refused, refusal_of}
 use Rattle.part.specs.Own.{sent}
 use Rattle.part.specs.State.{State}
-use Rattle.part.specs.Calls.{Site, site, closed, Stepped, at, Asked, sends, start_on, state_after, state_asked, values_in, lent_after_ask}
-use Rattle.part.specs.Calls as Calls
+use Rattle.part.specs.Calls.{Site, site, closed, Stepped, Asked, start_on, state_after, state_asked, values_in, lent_after_ask}
 use Rattle.own.specs.declared.state.State as CodeState
 use Rattle.own.specs.States.{state_of}
-use Rattle.carriage.specs.declared.blocks.Blocks.{Blocks}
+use Rattle.carriage.specs.declared.ready_blocks.Blocks.{Blocks}
 
 abbrev pub site_is : Result Blocks Refusal → Site
 site_is (Ok w) = site w.n w.f w.left

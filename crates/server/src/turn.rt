@@ -8,9 +8,10 @@ ghost use Rattle.own.specs.States.{state_of};
 ghost use Rattle.server.specs.Answers.{site_is, value_of, refused_by, started_of, Stepping, Starting, Asking};
 
 use crate::counts;
-use carriage::block::Block;
-use carriage::blocks::Blocks;
+use carriage::ready_block::Block;
+use carriage::ready_blocks::Blocks;
 use network::Network;
+use own::kind::Kind;
 use own::state::{Own, State};
 use own::{state, step};
 use plan::check;
@@ -43,14 +44,14 @@ fn block_at<'a>(plan: &Blocks<'a>, j: usize) -> Block<'a>
 
 // How many values the server sends: at the end one, the decided bit.
 fn values_due(plan: &Blocks, server: u8, state: State) -> usize
-    requires { (state.kind ≡ 0x15 → ⊥) → state.block < plan.now.left }
-    ensures { (result ≡ length (values_due plan.now.n plan.now.f plan.now.rest.now server (state_of state))) × (result ≤ 56) }
+    requires { (server < 8) × ((state.kind ≡ 0x15 → ⊥) → state.block < plan.now.left) }
+    ensures { result ≡ length (values_due plan.now.n plan.now.f plan.now.rest.now server (state_of state)) }
 {
     if state.kind == 0x15 {
         return 1;
     }
     let block = block_at(plan, state.block as usize);
-    counts::sent(&block, state.kind, server)
+    counts::sent(&block, Kind::from(state.kind), server)
 }
 
 // What the server sends: t in 12 and 13; v in 11 and 14 and at the end.
@@ -58,13 +59,10 @@ fn value(state: State) -> u8
     requires { (state.v < 2) × (state.t < 3) }
     ensures { result ≡ value_of (state_of state) }
 {
-    if state.kind == 0x12 {
-        return state.t as u8;
+    match Kind::from(state.kind) {
+        Kind::Among | Kind::Outward => state.t as u8,
+        Kind::Inward | Kind::Reports => state.v as u8,
     }
-    if state.kind == 0x13 {
-        return state.t as u8;
-    }
-    state.v as u8
 }
 
 // The value, so many times; later bytes are left as they are.
@@ -106,7 +104,7 @@ fn moved(plan: &Blocks, server: u8, state: State, arrived: &[u8]) -> State
     ensures { state_of result ≡ next plan.now.left (state_of state) (committed plan.now.n state.kind (block_of plan.now.n plan.now.f plan.now.rest.now state.block) server arrived.now (record { v = state.v; t = state.t })) }
 {
     let block = block_at(plan, state.block as usize);
-    let due = counts::due(&block, state.kind, server);
+    let due = counts::due(&block, Kind::from(state.kind), server);
     let before = Own {
         v: state.v as u8,
         t: state.t as u8,

@@ -1,5 +1,4 @@
 -- `carriage::arrival::message` meets its contract. Assumes nothing.
-use borrow.Author.Rules.{rules}
 use Rattle.carriage.proofs.Messages.{message_bit, message_other, message_none}
 use Rattle.carriage.proofs.arrival.message.Goals as goal
 

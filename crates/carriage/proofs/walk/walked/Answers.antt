@@ -1,7 +1,6 @@
 use mathlib.Core.Path.{refl}
-use Prim.Native.Nat.{◌-◌}
 use borrow.Author.Rules.{rules}
-use Rattle.carriage.proofs.Walking.{receiver_short, Passing, passing_starts, passing_stops, passing_goes, passing_ends}
+use Rattle.carriage.proofs.Walking.{receiver_short, passing_starts, passing_stops, passing_goes, passing_ends}
 use Rattle.carriage.proofs.walk.walked.Goals as goal
 
 -- the bytes are no operand

@@ -1,10 +1,7 @@
 -- `carriage::walk::walked` meets its contract. The invariant of its loop, `Passing`: the receiver is here or later, and the mark says whether a server
 -- passed is faulty. The measure is what is left of the eight bytes. Each need of a turn is one lemma of `Walking`, whose premises `search` finds.
 -- Assumes nothing.
-use mathlib.Core.Path.{refl}
-use Prim.Native.Nat.{◌-◌}
-use borrow.Author.Rules.{rules}
-use Rattle.carriage.proofs.Walking.{receiver_short, Passing, passing_starts, passing_stops, passing_goes, passing_ends}
+use Rattle.carriage.proofs.Walking.{Passing}
 use Rattle.carriage.proofs.walk.walked.Given as goal
 
 abbrev pub invariant-loop-k : goal.invariant-loop-k

@@ -8,5 +8,5 @@ pub returns : goal.returns
 returns c =
     let half : (let a = c.args in
     let r = c.step3-s3.result in
-    Half a.block.now.opening a.block.now.bytes.now a.faulty a.table.now a.number a.before.v a.before.sure a.before.t c.minus-sound.result r.v r.sure r.t) = let ready = c.args.block.now.ready in search half_runs in
+    Half a.block.now.opening a.block.now.bytes.now a.faults.now.servers a.faults.now.table.now a.number a.before.v a.before.sure a.before.t c.minus-sound.result r.v r.sure r.t) = let ready = c.args.block.now.ready in search half_runs in
     search (block_runs, half, c.meet-kept.ensures)

@@ -1,6 +1,6 @@
 -- `run::call::run` meets its contract. The card's refusal comes first, then the plan's, then the call's; what it answers is the definition's, so
 -- demand 3 holds of it. Each answer is one lemma of `Answering`. Assumes nothing.
-use mathlib.Core.Path.{◌≡◌, refl}
+use mathlib.Core.Path.{refl}
 use Rattle.std.proofs.lemmas.Result.{err_from_is_err_and}
 use Rattle.carriage.proofs.Accepting.{accepted_whole}
 use Rattle.run.proofs.Answering.{answer_card, answer_plan, answer_ground, answer_run}

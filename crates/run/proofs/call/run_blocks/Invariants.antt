@@ -8,5 +8,5 @@ use Rattle.run.proofs.call.run_blocks.Given as goal
 
 abbrev pub invariant-loop-part : goal.invariant-loop-part
 invariant-loop-part l =
-    Along l.faulty l.table (run_blocks l.plan.n l.faulty l.table 0 (decode_blocks l.plan.n l.plan.f l.plan.rest.now l.plan.left) (values_of l.initial.values))
+    Along l.faults.servers l.faults.table.now (run_blocks l.plan.n l.faults.servers l.faults.table.now 0 (decode_blocks l.plan.n l.plan.f l.plan.rest.now l.plan.left) (values_of l.initial.values))
     l.part-iterator l.number (bits_of l.values.v) (works_of l.values.sure l.values.t)

@@ -5,6 +5,6 @@ use Rattle.run.specs.Speaking.{bits_of}
 use Rattle.run.proofs.Reported.{Telling}
 use Rattle.run.proofs.hearing.over_report.Given as goal
 
-abbrev pub invariant-loop-m : goal.invariant-loop-m
-invariant-loop-m l =
-    Telling l.faulty l.table l.first (held (bits_of l.ones)) l.fn.before l.receiver l.reporters l.against l.number l.m-iterator.left
+abbrev pub invariant-loop-k : goal.invariant-loop-k
+invariant-loop-k l =
+    Telling l.faults.servers l.faults.table.now l.first (held (bits_of l.ones)) l.fn.before l.receiver l.reporters l.against l.k-iterator.count l.k-iterator.iter.left

@@ -1,34 +1,29 @@
--- `server::counts::due` meets its contract: the carriages of each kind stand at their place in the block (`Carrying`). Assumes nothing.
-use Rattle.server.proofs.Carrying.{inward_there, among_there, outward_there, reports_there, kind_inward, kind_among, kind_outward, kind_reports, received_kind}
+-- `server::counts::due` meets its contract, kind by kind (`Carrying`). Assumes nothing.
+use Prim.Native.Nat.{◌*◌, ◌<◌}
+use borrow.Author.Rules.{rules}
+use Rattle.part.specs.Own.{carriages_of}
+use Rattle.server.proofs.Carrying.{due_routes, due_reports, due_fits}
 use Rattle.server.proofs.counts.due.Goals as goal
 
--- 11
-pub routes_to-requires : goal.routes_to-requires
-routes_to-requires c = inward_there _ _ c.args.block.now.ready
+pub returns-in-Inward : goal.returns-in-Inward
+unfolding carriages_of
+returns-in-Inward c = rw c.in-Inward.is (due_routes _ _ _ _ c.inward.ensures c.routes_to.ensures)
 
-pub returns-then-kind-eq17 : goal.returns-then-kind-eq17
-returns-then-kind-eq17 c = received_kind _ _ _ (kind_inward _ _ c.args.block.now.ready _ c.if-kind-eq17.true) _ c.routes_to.ensures.0
+pub returns-in-Among : goal.returns-in-Among
+unfolding carriages_of
+returns-in-Among c = rw c.in-Among.is (due_routes _ _ _ _ c.among.ensures c.routes_to-in-Among.ensures)
 
--- 12
-pub routes_to-requires-then-kind-eq18 : goal.routes_to-requires-then-kind-eq18
-routes_to-requires-then-kind-eq18 c = among_there _ _ c.args.block.now.ready
+pub returns-in-Outward : goal.returns-in-Outward
+unfolding carriages_of
+returns-in-Outward c = rw c.in-Outward.is (due_routes _ _ _ _ c.outward.ensures c.routes_to-in-Outward.ensures)
 
-pub returns-then-kind-eq18 : goal.returns-then-kind-eq18
-returns-then-kind-eq18 c =
-    received_kind _ _ _ (kind_among _ _ c.args.block.now.ready _ c.if-kind-eq17.false c.if-kind-eq18.true) _ c.routes_to-then-kind-eq18.ensures.0
+-- at most eight commands of at most eight reports each
+pub overflow_mul-result : goal.overflow_mul-result
+overflow_mul-result c =
+    let there = c.reports-reports.result.there in
+    let fits : (c.reports_to.result * c.reports-reports.result.each < 18446744073709551616) = due_fits _ _ _ _ _ _ there c.reports_to.ensures in
+    search rules
 
--- 13
-pub routes_to-requires-then-kind-eq19 : goal.routes_to-requires-then-kind-eq19
-routes_to-requires-then-kind-eq19 c = outward_there _ _ c.args.block.now.ready
-
-pub returns-then-kind-eq19 : goal.returns-then-kind-eq19
-returns-then-kind-eq19 c =
-    received_kind _ _ _ (kind_outward _ _ c.args.block.now.ready _ c.if-kind-eq17.false c.if-kind-eq18.false c.if-kind-eq19.true) _ c.routes_to-then-kind-eq19.ensures.0
-
--- 14
-pub reports_to-requires : goal.reports_to-requires
-reports_to-requires c = reports_there _ _ c.args.block.now.ready
-
-pub returns : goal.returns
-returns c =
-    received_kind _ _ _ (kind_reports _ _ c.args.block.now.ready _ c.if-kind-eq17.false c.if-kind-eq18.false c.if-kind-eq19.false) _ c.reports_to.ensures
+pub returns-in-Reports : goal.returns-in-Reports
+unfolding carriages_of
+returns-in-Reports c = rw c.in-Reports.is (due_reports _ _ _ _ c.reports-reports.ensures.are _ c.reports-reports.result.there.told c.reports_to.ensures)

@@ -1,10 +1,10 @@
 -- `server::turn::values_due` meets its contract. Assumes nothing.
-use borrow.Author.Rules.{rules}
 use Rattle.server.proofs.Turning.{values_end, values_sent}
+use Rattle.server.proofs.Carrying.{kind_counts}
 use Rattle.server.proofs.turn.values_due.Goals as goal
 
 pub returns-then-state-eq21 : goal.returns-then-state-eq21
-returns-then-state-eq21 c = (search values_end, search rules)
+returns-then-state-eq21 c = search values_end
 
 pub returns : goal.returns
-returns c = (values_sent _ _ _ _ _ c.if-state-eq21.false _ _ c.sent.ensures.0 c.block_at-block.ensures.block, c.sent.ensures.1)
+returns c = values_sent _ _ _ _ _ c.if-state-eq21.false _ _ (rw (kind_counts _ _ _ c.from.ensures) at c.sent.ensures) c.block_at-block.ensures.block

@@ -1,8 +1,0 @@
--- `server::counts::routes_to` meets its contract. The invariant of its loop, `Counted`: the routes found and those left that end at the server are those of
--- the whole. The measure is how many are left. Assumes nothing.
-use Rattle.server.proofs.Tallies.{route_to}
-use Rattle.server.proofs.Counting.{Counted}
-use Rattle.server.proofs.counts.routes_to.Given as goal
-
-abbrev pub invariant-loop-k : goal.invariant-loop-k
-invariant-loop-k l = Counted (route_to l.server) l.block l.place l.count l.found l.at l.k
