@@ -21,6 +21,8 @@ pub struct Chosen {
 }
 
 // Server x is in the set, and without x the set still holds a weak set.
+// Kept: the table goes in by itself, here and below, as it is looked up while it is filled, when `Weak`
+// can't say yet what it marks.
 fn less_at(table: &[bool; 256], set: u8, x: u8) -> bool
     ensures { result ≡ less_at table.now set x }
 {

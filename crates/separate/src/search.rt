@@ -11,142 +11,117 @@ use flow::{Flow, Searched};
 // The allowance of a search: there are sixteen sides, and none is tried twice.
 const SIDES: u8 = 17;
 
-// The servers to whose entry side the leaving side of x leads: those linked from x that no route goes
-// to from x, and x itself if a route passes x.
-#[tactic(auto, unfolding(flow::specs::Search::ahead))]
-fn ahead(rows: &[u8; 8], inner: u8, flow: Flow, x: u8) -> u8
-    requires { x < 8 }
-    ensures { result ≡ ahead rows.now inner flow x }
-{
-    let at = x as usize;
-    let fresh = sets::minus(sets::meet(rows[at], inner), flow.out[at]);
-    let back = sets::meet(flow.used, sets::single(x));
-    sets::union(fresh, back)
-}
-
-// The search from the entry side of x: to its leaving side, or, if a route passes x, back to the
-// leaving side of the server before it.
-#[cycle(enter_leave)]
-fn enter(
-    allowance: u8,
-    rows: &[u8; 8],
+// Where routes go: row x has the servers that x has a link to, `inner` are those that a route may pass,
+// and `last` those of them with a link to the receiver.
+#[derive(Clone, Copy, Drop)]
+struct Ground<'a> {
+    rows: &'a [u8; 8],
     inner: u8,
     last: u8,
-    flow: Flow,
-    entered: u8,
-    left: u8,
-    x: u8,
-) -> Result<Searched, Searched>
-    requires { x < 8 }
-    ensures { sought_of result ≡ enter allowance rows.now inner last flow entered left x }
-{
-    if allowance == 0 {
-        return Err(Searched {
-            flow,
-            entered,
-            left,
-        });
+}
+
+impl<'a> Ground<'a> {
+    // The servers to whose entry side the leaving side of x leads: those linked from x that no route goes
+    // to from x, and x itself if a route passes x.
+    #[tactic(auto, unfolding(flow::specs::Search::ahead))]
+    fn ahead(&self, flow: Flow, x: u8) -> u8
+        requires { x < 8 }
+        ensures { result ≡ ahead self.now.rows.now self.now.inner flow x }
+    {
+        let at = x as usize;
+        let fresh = sets::minus(sets::meet(self.rows[at], self.inner), flow.out[at]);
+        let back = sets::meet(flow.used, sets::single(x));
+        sets::union(fresh, back)
     }
-    let seen = sets::union(entered, sets::single(x));
-    if let Some(q) = sides::behind(flow, x) {
-        if !sets::member(left, q) {
-            let fewer = allowance - 1;
-            let found = leave(fewer, rows, inner, last, flow, seen, left, q)?;
-            let changed = changes::step_in(found.flow, x, q);
+
+    // The search from the entry side of x: to its leaving side, or, if a route passes x, back to the
+    // leaving side of the server before it.
+    #[cycle(enter_leave)]
+    fn enter(&self, allowance: u8, from: Searched, x: u8) -> Result<Searched, Searched>
+        requires { x < 8 }
+        ensures { sought_of result ≡ enter allowance self.now.rows.now self.now.inner self.now.last from.flow from.entered from.left x }
+    {
+        if allowance == 0 {
+            return Err(from);
+        }
+        let seen = Searched {
+            entered: sets::union(from.entered, sets::single(x)),
+            ..from
+        };
+        if let Some(q) = sides::behind(from.flow, x) {
+            if !sets::member(from.left, q) {
+                let found = self.leave(allowance - 1, seen, q)?;
+                return Ok(Searched {
+                    flow: changes::step_in(found.flow, x, q),
+                    ..found
+                });
+            }
+        }
+        Err(seen)
+    }
+
+    // The search from the leaving side of x: to the receiver, or to the entry sides of the servers ahead
+    // in turn, x itself among them if a route passes x.
+    #[cycle(enter_leave)]
+    fn leave(&self, allowance: u8, from: Searched, x: u8) -> Result<Searched, Searched>
+        requires { x < 8 }
+        ensures { sought_of result ≡ leave allowance self.now.rows.now self.now.inner self.now.last from.flow from.entered from.left x }
+    {
+        if allowance == 0 {
+            return Err(from);
+        }
+        let flow = from.flow;
+        let seen = sets::union(from.left, sets::single(x));
+        if sets::member(sets::minus(self.last, flow.ends), x) {
             return Ok(Searched {
-                flow: changed,
-                ..found
+                flow: changes::with_end(flow, x),
+                left: seen,
+                ..from
             });
         }
+        let fewer = allowance - 1;
+        let mut tried = Searched { left: seen, ..from };
+        for y in sets::ascending(self.ahead(flow, x)) {
+            if !sets::member(tried.entered, y) {
+                match self.enter(fewer, Searched { flow, ..tried }, y) {
+                    Ok(found) => {
+                        return Ok(Searched {
+                            flow: changes::step_out(found.flow, x, y),
+                            ..found
+                        });
+                    }
+                    Err(missed) => tried = missed,
+                }
+            }
+        }
+        Err(tried)
     }
-    Err(Searched {
-        flow,
-        entered: seen,
-        left,
-    })
-}
 
-// The search from the leaving side of x: to the receiver, or to the entry sides of the servers ahead
-// in turn, x itself among them if a route passes x.
-#[cycle(enter_leave)]
-fn leave(
-    allowance: u8,
-    rows: &[u8; 8],
-    inner: u8,
-    last: u8,
-    flow: Flow,
-    entered: u8,
-    left: u8,
-    x: u8,
-) -> Result<Searched, Searched>
-    requires { x < 8 }
-    ensures { sought_of result ≡ leave allowance rows.now inner last flow entered left x }
-{
-    if allowance == 0 {
-        return Err(Searched {
+    // The search from the entry sides of the sources in turn: the flow with one route more; or the flow
+    // as it is, and the sides seen.
+    fn seek(&self, sources: u8, flow: Flow) -> Result<Searched, Searched>
+        ensures { sought_of result ≡ seek self.now.rows.now self.now.inner self.now.last sources flow }
+    {
+        let mut tried = Searched {
             flow,
-            entered,
-            left,
-        });
-    }
-    let seen = sets::union(left, sets::single(x));
-    if sets::member(sets::minus(last, flow.ends), x) {
-        let ending = changes::with_end(flow, x);
-        return Ok(Searched {
-            flow: ending,
-            entered,
-            left: seen,
-        });
-    }
-    let fewer = allowance - 1;
-    let choices = ahead(rows, inner, flow, x);
-    let mut tried = Searched {
-        flow,
-        entered,
-        left: seen,
-    };
-    for y in sets::ascending(choices) {
-        if !sets::member(tried.entered, y) {
-            match enter(fewer, rows, inner, last, flow, tried.entered, tried.left, y) {
-                Ok(found) => {
-                    let changed = changes::step_out(found.flow, x, y);
-                    return Ok(Searched {
-                        flow: changed,
-                        ..found
-                    });
+            entered: 0,
+            left: 0,
+        };
+        for x in sets::ascending(sources) {
+            if !sets::member(tried.entered, x) {
+                match self.enter(SIDES, Searched { flow, ..tried }, x) {
+                    Ok(found) => {
+                        return Ok(Searched {
+                            flow: changes::with_start(found.flow, x),
+                            ..found
+                        });
+                    }
+                    Err(missed) => tried = missed,
                 }
-                Err(missed) => tried = missed,
             }
         }
+        Err(tried)
     }
-    Err(tried)
-}
-
-// The search from the entry sides of the sources in turn: the flow with one route more; or the flow
-// as it is, and the sides seen.
-fn seek(rows: &[u8; 8], inner: u8, last: u8, sources: u8, flow: Flow) -> Result<Searched, Searched>
-    ensures { sought_of result ≡ seek rows.now inner last sources flow }
-{
-    let mut tried = Searched {
-        flow,
-        entered: 0,
-        left: 0,
-    };
-    for x in sets::ascending(sources) {
-        if !sets::member(tried.entered, x) {
-            match enter(SIDES, rows, inner, last, flow, tried.entered, tried.left, x) {
-                Ok(found) => {
-                    let changed = changes::with_start(found.flow, x);
-                    return Ok(Searched {
-                        flow: changed,
-                        ..found
-                    });
-                }
-                Err(missed) => tried = missed,
-            }
-        }
-    }
-    Err(tried)
 }
 
 // `count` routes in `within` from the sources to the receiver, where `near` are the servers with a link
@@ -164,6 +139,7 @@ pub fn flow_to(
 {
     let inner = sets::minus(within, sets::single(receiver));
     let last = sides::last_in(near, within, receiver);
+    let ground = Ground { rows, inner, last };
     let starts = sets::meet(sources, inner);
     let first = lowest::lowest_of(sets::meet(starts, last), count);
     let laid = sets::size(first);
@@ -173,7 +149,7 @@ pub fn flow_to(
         left: 0,
     };
     for _ in laid..count {
-        sought = seek(rows, inner, last, starts, sought.flow)?;
+        sought = ground.seek(starts, sought.flow)?;
     }
     Ok(sought)
 }

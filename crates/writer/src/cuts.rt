@@ -8,6 +8,7 @@ use crate::fault::Fault;
 use choice::Chosen;
 use plan::due;
 
+// Kept: the whole buffer goes with the place in it, as a body is copied from before the place.
 impl<'a> Fault<'a> {
     // A block written anew; how many bytes it has.
     fn put_new(&self, lent: &mut [u8], at: usize, chosen: Chosen) -> usize
