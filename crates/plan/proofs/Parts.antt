@@ -10,7 +10,6 @@ use lib.ListN.{get_or}
 use lib.Dec.{eqb}
 use borrow.Author.Tests.{eq-eqb, ne_eqb}
 use Rattle.sets.specs.Sets.{minus, within}
-use Rattle.route.specs.Commands.{is_cut}
 use Rattle.sets.specs.Members.{members}
 use Rattle.network.specs.Links.{Links}
 use Rattle.network.specs.Rows.{links_of}
@@ -40,30 +39,30 @@ rest_split t s side quorum receivers others p q =
     ∙ then_then (and_then (check_groups W links s inward 4 0) (λ (a c : ℕ). check_groups W links s among a c)) (λ (a c : ℕ). check_groups W links s outward a c) next
     ∙ then_then (check_groups W links s inward 4 0) (λ (a c : ℕ). check_groups W links s among a c) (λ (a c : ℕ). and_then (check_groups W links s outward a c) next)))
 
--- the command is a block's, with its operands
-module _ (t : Site) (s : List ℕ) (part : ℕ) (cut : is_cut s 0 ≡ false) (command : get_or s 0 0 ≡ 16) where
+-- the command is a block's: on from there
+module _ (t : Site) (s : List ℕ) (part : ℕ) (opened : (next : Progress) → next ≡ is_due s 0 0x10 next) where
   pub block_strange : (get_or s 1 0 ≡ t.fault → ⊥) → stopped 7 0 ≡ check_block t.n t.f (links_of t.rows) s (due_of t.fault part)
-  unfolding check_block is_due
-  block_strange o = sym (simp (cut, eq-eqb _ _ command, ne_eqb _ _ o))
+  unfolding check_block
+  block_strange o = sym (simp (ne_eqb _ _ o)) ∙ opened _
 
   -- its F is the one due
   module _ (known : get_or s 1 0 ≡ t.fault) where
-    opened : cond (eqb (get_or s 2 0) part || eqb (get_or s 2 0) (minus t.sound part)) (cond (not (eqb (get_or s 3 0) 0) && within (get_or s 3 0) t.sound) (rest_in t s (get_or s 2 0) (get_or s 3 0)) (stopped 8 0)) (stopped 7 0)
+    ahead : cond (eqb (get_or s 2 0) part || eqb (get_or s 2 0) (minus t.sound part)) (cond (not (eqb (get_or s 3 0) 0) && within (get_or s 3 0) t.sound) (rest_in t s (get_or s 2 0) (get_or s 3 0)) (stopped 8 0)) (stopped 7 0)
         ≡ check_block t.n t.f (links_of t.rows) s (due_of t.fault part)
-    unfolding check_block is_due
-    opened = sym (simp (cut, eq-eqb _ _ command, known, eq-eqb t.fault t.fault refl, ← t.rest))
+    unfolding check_block
+    ahead = sym (simp (known, eq-eqb t.fault t.fault refl, ← t.rest)) ∙ opened _
 
     module _ {side : Bool} (a : side ≡ (eqb (get_or s 2 0) part || eqb (get_or s 2 0) (minus t.sound part))) where
       pub block_side : side ≡ false → stopped 7 0 ≡ check_block t.n t.f (links_of t.rows) s (due_of t.fault part)
-      block_side o = sym (simp (sym a ∙ o)) ∙ opened
+      block_side o = sym (simp (sym a ∙ o)) ∙ ahead
 
       module _ (o : side ≡ true) where
         pub block_empty : get_or s 3 0 ≡ 0 → stopped 8 0 ≡ check_block t.n t.f (links_of t.rows) s (due_of t.fault part)
-        block_empty z = sym (simp (sym a ∙ o, eq-eqb _ _ z)) ∙ opened
+        block_empty z = sym (simp (sym a ∙ o, eq-eqb _ _ z)) ∙ ahead
 
         module _ (z : get_or s 3 0 ≡ 0 → ⊥) {inside : Bool} (b : inside ≡ within (get_or s 3 0) t.sound) where
           pub block_outside : inside ≡ false → stopped 8 0 ≡ check_block t.n t.f (links_of t.rows) s (due_of t.fault part)
-          block_outside i = sym (simp (sym a ∙ o, ne_eqb _ _ z, sym b ∙ i)) ∙ opened
+          block_outside i = sym (simp (sym a ∙ o, ne_eqb _ _ z, sym b ∙ i)) ∙ ahead
 
           pub block_rest : inside ≡ true → rest_in t s (get_or s 2 0) (get_or s 3 0) ≡ check_block t.n t.f (links_of t.rows) s (due_of t.fault part)
-          block_rest i = sym (simp (sym a ∙ o, ne_eqb _ _ z, sym b ∙ i)) ∙ opened
+          block_rest i = sym (simp (sym a ∙ o, ne_eqb _ _ z, sym b ∙ i)) ∙ ahead

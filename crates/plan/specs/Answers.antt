@@ -14,6 +14,7 @@ use Rattle.plan.specs.Check.{Progress}
 use Rattle.plan.specs.declared.site.Site.{Site}
 use Rattle.plan.specs.declared.site.Reached.{Reached}
 use Rattle.plan.specs.declared.check.Kind.{Kind}
+use Rattle.plan.specs.declared.check.Mark.{Mark}
 use Rattle.plan.specs.declared.check.Group.{Group}
 use Rattle.plan.specs.declared.check.Totals.{Totals}
 
@@ -25,6 +26,16 @@ progress_of (Err g) = Check.stopped (number_of (plan_refusal g)) (place_of (plan
 abbrev pub then_of : (ℕ → Progress) → Result ℕ PlanGround → Progress
 then_of on (Ok servers) = on servers
 then_of on (Err g) = Check.stopped (number_of (plan_refusal g)) (place_of (plan_refusal g))
+
+-- on where the command due is there
+abbrev pub due_then : Progress → Result Unit PlanGround → Progress
+due_then next (Ok _) = next
+due_then next (Err g) = Check.stopped (number_of (plan_refusal g)) (place_of (plan_refusal g))
+
+abbrev pub mark_of : Mark → ℕ
+mark_of Mark.Block = 0x10
+mark_of Mark.Report = 0x14
+mark_of Mark.End = 0x15
 
 abbrev pub command_of : Kind → ℕ
 command_of Kind.Inward = 0x11

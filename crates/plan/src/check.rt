@@ -4,11 +4,11 @@ ghost use Rattle.refusal.specs.Refused.{plan_refusal, number_of, place_of};
 ghost use Rattle.sets.specs.Sets.{minus};
 ghost use Rattle.sets.specs.Members.{members};
 ghost use Rattle.network.specs.Rows.{links_of};
-ghost use Rattle.route.specs.Commands.{is_cut};
+ghost use Rattle.route.specs.Commands.{width, is_cut};
 ghost use Rattle.plan.specs.Due.{blocks_of, due, fan, to_one, pairs};
 ghost use Rattle.plan.specs.Ahead.{parts};
-ghost use Rattle.plan.specs.Check.{Progress, one_route, check_group, all_linked, is_report, check_block, check_blocks, check_end, check_on, check_plan};
-ghost use Rattle.plan.specs.Answers.{progress_of, then_of, command_of, group_of, due_of, groups_in, reports_in, rest_in, network_is, answered_of, checked_of};
+ghost use Rattle.plan.specs.Check.{Progress, is_due, one_route, check_group, all_linked, is_report, check_block, check_blocks, check_end, check_on, check_plan};
+ghost use Rattle.plan.specs.Answers.{progress_of, due_then, then_of, mark_of, command_of, group_of, due_of, groups_in, reports_in, rest_in, network_is, answered_of, checked_of};
 
 use crate::due;
 use crate::site::{Reached, Site};
@@ -17,12 +17,44 @@ use refusal::{PlanGround, Refusal};
 use route::command;
 
 // Where a route of a block leads: from A to the others of S, within S, or from S to the others of
-// V−F. The number is the command.
+// V−F.
 #[derive(Clone, Copy, Drop)]
 pub(crate) enum Kind {
-    Inward = 17,
-    Among = 18,
-    Outward = 19,
+    Inward,
+    Among,
+    Outward,
+}
+
+impl Kind {
+    fn command(self) -> u8
+        ensures { result ≡ command_of self }
+    {
+        match self {
+            Kind::Inward => 17,
+            Kind::Among => 18,
+            Kind::Outward => 19,
+        }
+    }
+}
+
+// What a plan has beside routes.
+#[derive(Clone, Copy, Drop)]
+pub(crate) enum Mark {
+    Block,
+    Report,
+    End,
+}
+
+impl Mark {
+    fn command(self) -> u8
+        ensures { result ≡ mark_of self }
+    {
+        match self {
+            Mark::Block => 16,
+            Mark::Report => 20,
+            Mark::End => 21,
+        }
+    }
 }
 
 // The separate routes that are due to one receiver.
@@ -34,6 +66,20 @@ pub(crate) struct Group {
     pub(crate) count: usize,
 }
 
+// At this place there is the command that is due, with its operands.
+fn due_here(plan: &[u8], at: usize, mark: Mark) -> Result<(), PlanGround>
+    ensures gives { (next : Progress) → due_then next result ≡ is_due plan.now at (mark_of mark) next }
+    ensures whole { IfOk result (λ _. at + width (mark_of mark) ≤ length plan.now) }
+{
+    if command::is_cut(plan, at) {
+        return Err(PlanGround::Cut(at));
+    }
+    if plan[at] != mark.command() {
+        return Err(PlanGround::NotDue(at));
+    }
+    Ok(())
+}
+
 // At this place there is a route's command, the one due, with all of its operand. Commands of routes
 // are of one width, so that the one due tells where the operand ends.
 fn is_route_due(plan: &[u8], at: usize, kind: Kind) -> bool
@@ -43,7 +89,7 @@ fn is_route_due(plan: &[u8], at: usize, kind: Kind) -> bool
         if plan.len() - at < 9 {
             return false;
         }
-        return plan[at] == kind as u8;
+        return plan[at] == kind.command();
     }
     false
 }
@@ -214,12 +260,7 @@ fn check_report(site: &Site, plan: &[u8], start: Reached, k: u8) -> Result<Reach
     ensures { progress_of result ≡ reports_in site.now plan.now (k ∷ []) start }
 {
     let at = start.at;
-    if command::is_cut(plan, at) {
-        return Err(PlanGround::Cut(at));
-    }
-    if plan[at] != 20 {
-        return Err(PlanGround::NotDue(at));
-    }
+    due_here(plan, at, Mark::Report)?;
     if plan[at + 1] == k && is_report(site, k, plan[at + 2]) {
         let count = (site.f as usize) + 1;
         return Ok(Reached {
@@ -269,12 +310,7 @@ fn is_side(sound: u8, part: u8, side: u8) -> bool
 fn check_block(site: &Site, part: u8, block: &[u8]) -> Result<Reached, PlanGround>
     ensures { progress_of result ≡ check_block site.now.n site.now.f (links_of site.now.rows) block.now (due_of site.now.fault part) }
 {
-    if command::is_cut(block, 0) {
-        return Err(PlanGround::Cut(0));
-    }
-    if block[0] != 16 {
-        return Err(PlanGround::NotDue(0));
-    }
+    due_here(block, 0, Mark::Block)?;
     let side = block[2];
     if block[1] != site.fault || !is_side(site.sound, part, side) {
         return Err(PlanGround::NotDue(0));
@@ -358,12 +394,7 @@ fn check_end(plan: &[u8], reached: Reached) -> Result<Reached, PlanGround>
     ensures { progress_of result ≡ check_end plan.now reached.at reached.carriages }
 {
     let at = reached.at;
-    if command::is_cut(plan, at) {
-        return Err(PlanGround::Cut(at));
-    }
-    if plan[at] != 21 {
-        return Err(PlanGround::NotDue(at));
-    }
+    due_here(plan, at, Mark::End)?;
     let end = at + 1;
     if end < plan.len() {
         return Err(PlanGround::Trailing(end));
