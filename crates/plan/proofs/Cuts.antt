@@ -31,7 +31,7 @@ full_few n servers h e =
     (v, omega arith, omega arith)
 
 -- a part is below the set
-part_below : (W p : ℕ) → is_part W p ≡ true → p < W
+pub part_below : (W p : ℕ) → is_part W p ≡ true → p < W
 unfolding is_part within
 part_below W p e =
     let l = and_le_r p W in

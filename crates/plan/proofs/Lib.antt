@@ -6,6 +6,7 @@
 -- Parts       the parts of a block, one after the other
 -- Bounds      the place that a check reaches lies within the plan
 -- Cuts        the fault sets of a network and the parts that its cuts are known by
+-- Scans       the scan over the parts of a set
 -- Counts      how many blocks are due, computed from the definition
 -- Plans       the plan as a whole
 pub mod Joins
@@ -18,3 +19,4 @@ pub mod Bounds
 pub mod Cuts
 pub mod Counts
 pub mod Plans
+pub mod Scans

@@ -5,7 +5,7 @@ use Rattle.std.specs.Prelude.{List, ℕ, ◌+◌, ◌-◌, ◌^◌, leb}
 use Rattle.sets.specs.Sets.{Set, size}
 use Rattle.sets.specs.Members.{list_from}
 use Rattle.plan.specs.Due.{is_part}
-use Rattle.plan.specs.declared.due.Cuts.{Cuts}
+use Rattle.plan.specs.declared.scan.Cuts.{Cuts}
 use Rattle.plan.specs.declared.due.FaultSets.{FaultSets}
 
 -- the sets of at most f servers

@@ -5,19 +5,13 @@ ghost use Rattle.std.specs.Iterator.{YieldsFirst, item_count};
 ghost use Rattle.plan.specs.Due.{is_part};
 ghost use Rattle.plan.specs.Ahead.{parts, parts_left, faults, faults_left};
 
+use crate::scan::Cuts;
+
 // The part holds the lowest server of `sound`, lies within it and is not all of it.
 pub fn is_part(sound: u8, part: u8) -> bool
     ensures { result ≡ is_part sound part }
 {
     sets::within(part, sound) && sets::member(part, sets::lowest(sound)) && part != sound
-}
-
-// The ways of cutting a set of servers in two, ascending, each known by its part.
-#[derive(Clone, Copy, Drop)]
-pub struct Cuts {
-    pub sound: u8,
-    // The parts before it are passed.
-    pub next: u8,
 }
 
 impl Iterator for Cuts {
@@ -29,13 +23,17 @@ impl Iterator for Cuts {
 
     fn next(&mut self) -> Option<u8> {
         let sound = self.sound;
-        for part in self.next..sound {
-            if is_part(sound, part) {
-                self.next = part + 1;
-                return Some(part);
+        let others = sets::minus(255, sound);
+        let mut next = self.next;
+        while next < sound as u16 {
+            let set = next as u8;
+            next = sets::next_apart(set, others);
+            if is_part(sound, set) {
+                self.next = next;
+                return Some(set);
             }
         }
-        self.next = sound;
+        self.next = next;
         None
     }
 }

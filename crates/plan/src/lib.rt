@@ -3,4 +3,5 @@
 
 pub mod check;
 pub mod due;
+pub mod scan;
 mod site;
