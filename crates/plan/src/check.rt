@@ -156,6 +156,7 @@ fn check_group(
 }
 
 // One route within S, by itself: there is none that it could share a server with.
+// Kept: a twin of `check_group` at one route, for a plan check by that one takes a sixth longer.
 fn check_one(
     site: &Site,
     plan: &[u8],
@@ -323,6 +324,8 @@ fn check_block(site: &Site, part: u8, block: &[u8]) -> Result<Reached, PlanGroun
 }
 
 // The ground, with its place counted from `at` bytes earlier.
+// Kept: each ground is made anew, since the block check counts its places from its 10 command (its
+// contract, as the plan's part that it takes starts there).
 fn later(ground: PlanGround, at: usize) -> PlanGround
     requires { (1 < number_of (plan_refusal ground)) × (at + place_of (plan_refusal ground) ≤ usize.MAX) }
     ensures { (number_of (plan_refusal result) ≡ number_of (plan_refusal ground)) × (place_of (plan_refusal result) ≡ at + place_of (plan_refusal ground)) }

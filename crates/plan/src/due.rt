@@ -25,6 +25,7 @@ impl Iterator for Cuts {
         let sound = self.sound;
         let others = sets::minus(255, sound);
         let mut next = self.next;
+        // Kept: a step takes it past many sets, so that no range is gone over.
         while next < sound as u16 {
             let set = next as u8;
             next = sets::next_apart(set, others);

@@ -2,6 +2,7 @@
 ghost use Rattle.std.specs.Prelude.{◌≡◌};
 ghost use Rattle.route.specs.Commands.{width, is_cut};
 
+// Kept: the command is the byte of the file format (docs/FORMATS.md), unknown ones too.
 // How many bytes the command takes with its operands; 0 for a command that is none of a plan's.
 #[tactic(auto, unfolding(crate::specs::Commands::width))]
 pub fn width(command: u8) -> usize

@@ -26,6 +26,11 @@ pub bounds-block-3 : goal.bounds-block-3
 unfolding width
 bounds-block-3 c = let l = c.in_ok-due_here.ensures.whole in omega arith
 
+pub returns : goal.returns
+returns c =
+    c.check_rest.ensures
+    ∙ block_rest c.args.site.now _ _ c.in_ok-due_here.ensures.gives c.if-block-site.false c.is_side.ensures c.if-not-is_side.false c.if-quorum-eq0.false c.within.ensures c.if-not-within.false
+
 pub returns-then-block-site : goal.returns-then-block-site
 returns-then-block-site c = elim c.then-block-site.branch [
   | then-block-site-via-then-block-site w ↦ block_strange c.args.site.now _ _ c.in_ok-due_here.ensures.gives w.if-block-site.true
@@ -38,8 +43,3 @@ returns-then-quorum-eq0 c = elim c.then-quorum-eq0.branch [
   | then-quorum-eq0-via-else-quorum-eq0+then-not-within w ↦
       block_outside c.args.site.now _ _ c.in_ok-due_here.ensures.gives c.if-block-site.false c.is_side.ensures c.if-not-is_side.false w.if-quorum-eq0.false w.within.ensures w.if-not-within.true
 ]
-
-pub returns : goal.returns
-returns c =
-    c.check_rest.ensures
-    ∙ block_rest c.args.site.now _ _ c.in_ok-due_here.ensures.gives c.if-block-site.false c.is_side.ensures c.if-not-is_side.false c.if-quorum-eq0.false c.within.ensures c.if-not-within.false
