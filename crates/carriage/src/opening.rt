@@ -23,10 +23,7 @@ pub struct Opening {
 fn byte(block: &[u8], at: usize) -> u8
     ensures { result ≡ get_or block.now at 0 }
 {
-    if at < block.len() {
-        return block[at];
-    }
-    0
+    block.get(at).copied().unwrap_or(0)
 }
 
 // The size of a set, from the table that is handed down.
@@ -36,6 +33,7 @@ fn size_in(sizes: &[u8; 256], set: u8) -> u8
     sizes[set as usize]
 }
 
+// Kept: a function of its own, as the bound of a product stands once here and not at four places.
 fn product(a: usize, b: usize) -> usize
     requires { (a < 256) × (b ≤ 256) }
     ensures { (result ≡ a * b) × (result < 65536) }

@@ -19,6 +19,7 @@ pub fn walked(faulty: u8, operand: &[u8]) -> Walk
         return Walk { end: 0, hit: false };
     }
     let mut hit = sets::member(faulty, operand[0]);
+    // Kept: by place, since each turn looks at two bytes, a server and whether the fill comes next.
     for k in 1..7usize {
         let here = sets::member(faulty, operand[k]);
         if operand[k + 1] == 255 {

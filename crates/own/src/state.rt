@@ -4,6 +4,7 @@ ghost use Rattle.part.specs.State.{first, placed, stands, opened, next};
 ghost use Rattle.own.specs.States.{state_of, own_of, moved_on};
 
 // Words of any size may be handed in; those of no state are refused.
+// Kept: five words and no enum, since they are the words of the C interface and of `part`.
 #[derive(Clone, Copy)]
 pub struct State {
     // The block, from 0; at the end the number of blocks.

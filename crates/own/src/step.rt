@@ -16,6 +16,7 @@ use carriage::opening::Opening;
 fn alike(arrived: &[u8], due: usize, x: u8) -> bool
     ensures { result ≡ all x (arrivals arrived.now 0 due) }
 {
+    // Kept: by number, since an arrival that is missing counts too.
     for j in 0..due {
         if arrival::message(arrived, j) != x {
             return false;
@@ -99,6 +100,7 @@ fn step6(fault: u8, server: u8, arrived: &[u8], due: usize, v: u8) -> u8
     v
 }
 
+// Kept: the kind is a number, since `any` says what is answered for every number.
 // The commit of a kind: 11 takes steps 1 and 2, 12 step 3, 13 steps 4 and 5, 14 step 6.
 pub fn committed(
     opening: Opening,

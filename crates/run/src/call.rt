@@ -58,6 +58,7 @@ fn write(n: u8, faulty: u8, v: u8, lent: &mut [u8])
     requires { (n ≤ 8) × (n ≤ length lent.old) }
     ensures { lent.new ≡ decided n faulty (bits_of v) ++ drop n lent.old }
 {
+    // Kept: by number, since each byte is made from the number of its server.
     for i in 0..n {
         let j = i as usize;
         if sets::member(faulty, i) {

@@ -28,6 +28,7 @@ pub(crate) struct Faults<'a> {
     pub(crate) table: &'a [u8],
 }
 
+// Kept: both sets in one number, for speed.
 // Both sets from one number, the second times 256. What a function hands back as two bytes the
 // caller reads as one word, and has to wait for it; a number stays in a register.
 pub(crate) fn unpacked(sets: u16) -> Against
@@ -70,6 +71,7 @@ fn brought(hit: bool, table: &[u8], number: usize, sure: u8, ones: u8, source: u
     work(sure, ones, source)
 }
 
+// Kept: no branch in the hottest loop, for speed.
 // x where the test holds, else y: both are at hand, so that no branch has to be foreseen.
 fn chosen(test: bool, x: u8, y: u8) -> u8
     ensures { result ≡ cond test x y }
@@ -100,6 +102,7 @@ pub(crate) fn over_routes(faults: &Faults, first: usize, sure: u8, ones: u8, rou
     requires { first ≤ 4294967296 }
     ensures { Speaks (heard faults.now.servers faults.now.table.now first (held (works_of sure ones)) (map carriage_of (routes_of routes.entry))) (record { zero = result % 256; one = result / 256 }) }
 {
+    // Kept: two bytes and no `Against`, so that each stays in a register of the hottest loop.
     let mut zero: u8 = 0;
     let mut one: u8 = 0;
     for (k, route) in routes.enumerate() {
