@@ -22,8 +22,8 @@ returns-then-taken-eq0 c =
 pub loop-part-preserved : goal.loop-part-preserved
 loop-part-preserved c =
     elim c.if-taken-least.branch [
-      then-taken-least w ↦ rw w.least-is (scan_less _ _ _ _ _ _ _ _ c.loop-part.invariant c.loop-part-test.true c.cut_off-taken.ensures w.if-taken-least.true)
-    | else-taken-least w ↦ rw w.least-is (scan_kept _ _ _ _ _ _ _ _ c.loop-part.invariant c.loop-part-test.true c.cut_off-taken.ensures w.if-taken-least.false)
+      | then-taken-least w ↦ rw w.least-is (scan_less _ _ _ _ _ _ _ _ c.loop-part.invariant c.loop-part-test.true c.cut_off-taken.ensures w.if-taken-least.true)
+      | else-taken-least w ↦ rw w.least-is (scan_kept _ _ _ _ _ _ _ _ c.loop-part.invariant c.loop-part-test.true c.cut_off-taken.ensures w.if-taken-least.false)
     ]
 
 pub returns : goal.returns
