@@ -16,6 +16,8 @@ use run::call;
 use server::turn;
 use writer::write;
 
+// Kept, in all calls below: the parameters and the rows of words are those of the C interface.
+
 // The version of this library: 1,000,000 * major + 1,000 * minor + patch.
 pub fn agreement_version() -> u64
     ensures { result ≡ version }

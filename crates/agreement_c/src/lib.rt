@@ -10,6 +10,9 @@ ghost use Rattle.words.specs.Words.{card_words, split_words, state_from, stepped
 ghost use Rattle.agreement.specs.Words.{PrintWords, QuickWords, PlanWords, WriteWords, RouteWords, LoadWords, RunWords, AskWords};
 ghost use Rattle.agreement.specs.Version.{version};
 
+// Kept, in all calls below: a twin of each call of `agreement`, since a crate with exports for C is no library that
+// `cases` could use.
+
 // The version of this library: 1,000,000 * major + 1,000 * minor + patch.
 #[unsafe(no_mangle)]
 pub extern "C" fn agreement_version() -> u64

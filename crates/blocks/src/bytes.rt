@@ -35,6 +35,7 @@ impl<'a> Place<'a> {
     }
 
     // A route command and its operand where the buffer ends within them.
+    // Kept: the command is the byte that the file format has, here and below (docs/FORMATS.md).
     fn put_cut(&mut self, command: u8, route: [u8; 8])
         requires { self.old.at ≤ 1000000 }
         ensures { Placed (command ∷ route) 9 self.old self.new }
@@ -45,7 +46,8 @@ impl<'a> Place<'a> {
         }
     }
 
-    // The same where the buffer has room for all nine bytes, with no test for each of them.
+    // The same where the buffer has room for all nine bytes.
+    // Kept: a twin of the one above, for speed: it makes no test for each byte, and nearly every route is put so.
     fn put_whole(&mut self, command: u8, route: [u8; 8])
         requires { self.old.at + 9 ≤ length self.old.part.now }
         ensures { Placed (command ∷ route) 9 self.old self.new }

@@ -42,6 +42,7 @@ fn product(a: usize, b: usize) -> usize
 }
 
 // What the opening command at the front fixes, where `sizes` is the table of sizes.
+// Kept: the table goes in, since the function promises its answer for any 256 bytes (DECISIONS.md, 106).
 pub fn read_opening(n: u8, f: u8, block: &[u8], sizes: &[u8; 256]) -> Opening
     ensures { OpensBy sizes.now n f block.now result }
 {

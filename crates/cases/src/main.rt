@@ -25,6 +25,7 @@
 ghost use Rattle.std.specs.Prelude.{◌≤◌, length, IfOk};
 
 use std::alloc::{AllocError, Global};
+use std::fmt::Display;
 use std::io;
 use std::io::Read;
 
@@ -70,16 +71,9 @@ fn number(s: &[u8]) -> usize
 }
 
 // Words or bytes, each with a space after it.
-fn print_words(rt: &impl Print, words: &[u64]) -> io::Result<()> {
-    for word in words {
-        print!(rt; "{word} ")?;
-    }
-    Ok(())
-}
-
-fn print_bytes(rt: &impl Print, bytes: &[u8]) -> io::Result<()> {
-    for byte in bytes {
-        print!(rt; "{byte} ")?;
+fn print_all<T: Display>(rt: &impl Print, items: &[T]) -> io::Result<()> {
+    for item in items {
+        print!(rt; "{item} ")?;
     }
     Ok(())
 }
@@ -87,25 +81,25 @@ fn print_bytes(rt: &impl Print, bytes: &[u8]) -> io::Result<()> {
 fn card_case(rt: &impl Print, card: &[u8]) -> io::Result<()> {
     let mut answer = [9u64; 12];
     agreement::agreement_read_card(card, &mut answer);
-    print_words(rt, &answer)
+    print_all(rt, &answer)
 }
 
 fn split_case(rt: &impl Print, card: &[u8]) -> io::Result<()> {
     let mut answer = [9u64; 5];
     agreement::agreement_split_test(card, &mut answer);
-    print_words(rt, &answer)
+    print_all(rt, &answer)
 }
 
 fn quick_case(rt: &impl Print, card: &[u8]) -> io::Result<()> {
     let mut answer = [9u64; 4];
     agreement::agreement_quick_test(card, &mut answer);
-    print_words(rt, &answer)
+    print_all(rt, &answer)
 }
 
 fn plan_case(rt: &impl Print, card: &[u8], plan: &[u8]) -> io::Result<()> {
     let mut answer = [9u64; 4];
     agreement::agreement_check_plan(card, plan, &mut answer);
-    print_words(rt, &answer)
+    print_all(rt, &answer)
 }
 
 // So many lent bytes.
@@ -117,7 +111,7 @@ fn write_case(rt: &impl Print, alloc: Global, card: &[u8]) -> io::Result<()> {
     let mut answer = [9u64; 8];
     let mut lent = lent(alloc, 300_000)?;
     agreement::agreement_write_plan(card, &mut lent, &mut answer);
-    print_words(rt, &answer)?;
+    print_all(rt, &answer)?;
     if answer[0] == 0 {
         let bytes = answer[1] as usize;
         plan_case(rt, card, lent.get(..bytes).unwrap_or(&[]))?;
@@ -128,7 +122,7 @@ fn write_case(rt: &impl Print, alloc: Global, card: &[u8]) -> io::Result<()> {
 fn load_case(rt: &impl Print, card: &[u8], plan: &[u8]) -> io::Result<()> {
     let mut answer = [9u64; 9];
     agreement::agreement_load(card, plan, &mut answer);
-    print_words(rt, &answer)
+    print_all(rt, &answer)
 }
 
 // The site is V−F, the eight rows of links, the sources and the receiver, a byte each.
@@ -137,8 +131,8 @@ fn route_case(rt: &impl Print, site: &[u8], operand: &[u8]) -> io::Result<()> {
         let rows = [*a, *b, *c, *d, *e, *f, *g, *h];
         let set = route::check_route(*sound, &rows, *sources, *receiver, operand);
         let servers = route::route_part(*sound, &rows, *sources, *receiver, operand);
-        print_bytes(rt, &[set])?;
-        print_bytes(rt, servers)?;
+        print_all(rt, &[set])?;
+        print_all(rt, servers)?;
     }
     Ok(())
 }
@@ -147,8 +141,8 @@ fn print_case(rt: &impl Print, alloc: Global, card: &[u8], buffer: &[u8]) -> io:
     let mut answer = [9u64; 4];
     let mut lent = lent(alloc, buffer.len().min(256))?;
     agreement::agreement_print_card(card, &mut lent, &mut answer);
-    print_words(rt, &answer)?;
-    print_bytes(rt, &lent)
+    print_all(rt, &answer)?;
+    print_all(rt, &lent)
 }
 
 fn run_case(
@@ -164,8 +158,8 @@ fn run_case(
     let mut answer = [9u64; 4];
     let mut lent = lent(alloc, buffer.len().min(256))?;
     agreement::agreement_run(card, plan, inputs, faulty, table, &mut lent, &mut answer);
-    print_words(rt, &answer)?;
-    print_bytes(rt, &lent)
+    print_all(rt, &answer)?;
+    print_all(rt, &lent)
 }
 
 // What rehearse prints has its own line ends.
@@ -178,7 +172,7 @@ fn transcript_case(rt: &impl Print, card: &[u8], plan: &[u8], run_in: &[u8]) -> 
 fn start_case(rt: &impl Print, card: &[u8], plan: &[u8], server: u8, input: u8) -> io::Result<()> {
     let mut answer = [9u64; 6];
     agreement::agreement_start(card, plan, server, input, &mut answer);
-    print_words(rt, &answer)
+    print_all(rt, &answer)
 }
 
 // The five words of a state; zeros where the part is too short for them.
@@ -205,8 +199,8 @@ fn ask_case(
     let mut lent = lent(alloc, buffer.len().min(256))?;
     let state = state_words(state);
     agreement::agreement_ask(card, plan, server, &state, &mut lent, &mut answer);
-    print_words(rt, &answer)?;
-    print_bytes(rt, &lent)
+    print_all(rt, &answer)?;
+    print_all(rt, &lent)
 }
 
 fn commit_case(
@@ -220,7 +214,7 @@ fn commit_case(
     let mut answer = [9u64; 6];
     let state = state_words(state);
     agreement::agreement_commit(card, plan, server, &state, arrived, &mut answer);
-    print_words(rt, &answer)
+    print_all(rt, &answer)
 }
 
 // The case of this kind whose parts come next; any other byte counts as r.

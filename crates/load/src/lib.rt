@@ -12,6 +12,7 @@ use refusal::Refusal;
 use route::command;
 
 // A command with a route: 11, 12 or 13.
+// Kept: the command is the byte of the file format (docs/FORMATS.md), unknown ones too.
 fn has_route(command: u8) -> bool
     ensures { result ≡ has_route command }
 {

@@ -141,6 +141,7 @@ fn check_group(
     let mut at = start.at;
     let mut carriages = start.carriages;
     let mut used: u8 = 0;
+    // Kept: the place goes on by hand, here and in `check_cuts`, since it is what a refusal names.
     for k in 0..group.count {
         let servers = route_at(site, plan, at, group)?;
         let others = sets::minus(servers, sets::single(group.receiver));

@@ -90,6 +90,8 @@ impl From<CallGround> for Refusal {
     }
 }
 
+// Kept: the numbers are written out here and below, since they are those of the table of FORMATS.md and a case
+// that holds a place has no number of its own to take.
 impl CardGround {
     fn number(self) -> u8
         ensures { result ≡ number_of (refusal_of (Refusal.Card self)) }

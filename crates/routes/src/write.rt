@@ -17,6 +17,8 @@ fn lay_routes(flow: Flow, receiver: u8, lent: &mut [u8])
     ensures { lent.new ≡ laid 0 (operands (routes_of flow receiver)) lent.old }
 {
     let mut at: usize = 0;
+    // Kept: the place goes on by eight; over parts of eight bytes the routes would have to be gone over in step
+    // with them, and the bytes after the last route be told from a part.
     for x in sets::ascending(flow.start) {
         let route = trail::operand(flow, receiver, x);
         lent[at..at + 8].copy_from_slice(&route);

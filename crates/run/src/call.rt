@@ -96,6 +96,7 @@ fn check_call(n: u8, f: u8, inputs: &[u8], faulty: u8, lent: &[u8]) -> Result<()
 
 // The run: the decided bits into the lent buffer, and how many blocks and carriages there were; or
 // the one refusal, the card's first, then the plan's, then the call's, with the buffer as it was.
+// Kept: six parameters, which are those of the C function `agreement_run`.
 pub fn run(
     card: &[u8],
     plan: &[u8],

@@ -127,6 +127,7 @@ impl<'a> Ground<'a> {
 // `count` routes in `within` from the sources to the receiver, where `near` are the servers with a link
 // to it: straight from the lowest sources that are near, then one sought after the other; or the search
 // that did not find one more.
+// Kept: six parameters, which are those of `flow_by` and so of the theorems `Finds` and `Cuts`.
 pub fn flow_to(
     rows: &[u8; 8],
     near: u8,

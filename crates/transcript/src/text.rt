@@ -33,6 +33,8 @@ impl<'a> Text<'a> {
     }
 
     // n in decimal digits.
+    // Kept: digits by hand and no `write!`, which stops at a full buffer, when the bytes that do not fit are to be
+    // counted too (`Put`).
     pub(crate) fn put_number(&mut self, n: usize)
         requires { self.old.at ≤ 1048576 }
         ensures put { Put self.old.at (decimal n) 20 self.old.out.now self.new.out.now self.new.at }

@@ -27,6 +27,7 @@ pub struct Rule {
 fn unlike(rows: [u8; 8], sources: [u8; 8]) -> bool
     ensures { result ≡ unlike rows sources }
 {
+    // Kept: by number, since the definition goes by it; of `rows != sources`, tried, the proof did not close.
     for u in 0..8usize {
         if rows[u] != sources[u] {
             return true;

@@ -175,6 +175,7 @@ pub fn loaded_words(loaded: Result<(), Refusal>, counts: [usize; 8]) -> [u64; 9]
 }
 
 // A state from its five words: block, kind, v, t, and 1 where an ask is open.
+// Kept: a function and no `From`, which can be written only where `State` is, below the words of the C interface.
 pub fn state_from(words: &[u64; 5]) -> State
     ensures { state_of result ≡ state_from words.now }
 {

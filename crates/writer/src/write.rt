@@ -41,6 +41,7 @@ impl From<Refusal> for Unwritten {
 
 // The blocks of one F; the place after them. First the table of the sets that hold a weak set: they come
 // in the order of their numbers, so the entries of the smaller sets are there when a set's turn comes.
+// Kept: six parameters, since `rows` and `sources` are made once for all fault sets and `lent` is changed.
 fn put_fault(
     lent: &mut [u8],
     start: usize,
