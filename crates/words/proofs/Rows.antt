@@ -6,13 +6,15 @@
 --     card_refused   a refused card: rows without links are zeros
 --     cut_laid       a cut and how many servers it has
 --     yes_laid       the yes or no of the quick test
+--     state_laid     the words of a state, with zeros behind
 -- Assumes nothing.
 use mathlib.Core.Path.{◌≡◌, refl, sym, ap, ap₂, ◌∙◌}
 use mathlib.Core.Bool.{Bool, true, false}
 use mathlib.Core.List.{List, [], ◌∷◌, ◌++◌}
 use Prim.Native.Nat.{ℕ, zero, suc, ◌+◌}
 use native.Mathlib.Omega.{arith}
-use lib.ListN.{length, get_or, drop, drop_of_length-le}
+use lib.ListN.{length, get_or, drop, replicate, drop_of_length-le}
+use Rattle.std.proofs.Common.{slice_set}
 use lib.Seq.{drop-cons}
 use mir.Val.{bool_byte}
 use Rattle.sets.specs.Sets.{size}
@@ -54,3 +56,6 @@ cut_laid servers many e = rw e refl
 pub yes_laid : (holds : Bool) (n least : ℕ) → 0 ∷ bool_byte holds ∷ n ∷ least ∷ [] ≡ quick_words (ruled holds n least)
 yes_laid true n least = refl
 yes_laid false n least = refl
+
+pub state_laid : (n m : ℕ) → n ≡ suc (suc (suc (suc (suc (suc m))))) → (a b c d e : ℕ) → slice_set (slice_set (slice_set (slice_set (slice_set (replicate n 0) 1 a) 2 b) 3 c) 4 d) 5 e ≡ 0 ∷ a ∷ b ∷ c ∷ d ∷ e ∷ replicate m 0
+state_laid n m h a b c d e = rw h refl

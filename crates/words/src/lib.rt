@@ -16,7 +16,7 @@ ghost use Rattle.routes.specs.Answers.{routing_of};
 ghost use Rattle.load.specs.Answers.{loaded_of};
 ghost use Rattle.own.specs.States.{state_of};
 ghost use Rattle.server.specs.Answers.{verdict_of, started_of, counted_of};
-ghost use Rattle.words.specs.Words.{refused_words, card_words, print_words, write_words, route_words, split_words, quick_words, plan_words, load_words, state_from, state_words, stepped_words};
+ghost use Rattle.words.specs.Words.{refused_words, card_words, print_words, write_words, route_words, split_words, quick_words, plan_words, load_words, state_from, state_row, state_words, stepped_words};
 
 use network::links;
 use own::state::State;
@@ -31,7 +31,7 @@ use writer::write::Unwritten;
 pub fn refused_words(r: Refusal) -> [u64; 4]
     ensures { result ≡ refused_words (refusal_of r) }
 {
-    [2, r.whose() as u64, r.number() as u64, r.place() as u64]
+    padded::<4>(r)
 }
 
 // The same in a row of N words: zeros follow.
@@ -189,12 +189,26 @@ pub fn state_from(words: &[u64; 5]) -> State
     }
 }
 
+// 0 and the five words of a state, in a row of N words: zeros follow.
+fn state_row<const N: usize>(state: State) -> [u64; N]
+    requires { 6 ≤ N }
+    ensures { result ≡ (0 ∷ state_row (state_of state)) ++ replicate (N - 6) 0 }
+{
+    let mut row = [0u64; N];
+    row[1] = state.block;
+    row[2] = state.kind;
+    row[3] = state.v;
+    row[4] = state.t;
+    row[5] = state.asked;
+    row
+}
+
 // The answer of start: 0 and the five words of the state; or the refusal, 0, 0.
 pub fn started_words(started: Result<State, Refusal>) -> [u64; 6]
     ensures { result ≡ stepped_words (started_of started) }
 {
     match started {
-        Ok(state) => [0, state.block, state.kind, state.v, state.t, state.asked],
+        Ok(state) => state_row::<6>(state),
         Err(r) => padded::<6>(r),
     }
 }
@@ -204,7 +218,7 @@ pub fn state_words(outcome: Result<(), Refusal>, state: State) -> [u64; 6]
     ensures { result ≡ state_words (verdict_of outcome) (state_of state) }
 {
     match outcome {
-        Ok(()) => [0, state.block, state.kind, state.v, state.t, state.asked],
+        Ok(()) => state_row::<6>(state),
         Err(r) => padded::<6>(r),
     }
 }
@@ -214,15 +228,11 @@ pub fn asked_words(asked: Result<usize, Refusal>, state: State) -> [u64; 7]
     ensures { result ≡ state_words (verdict_of asked) (state_of state) ++ counted_of asked ∷ [] }
 {
     match asked {
-        Ok(values) => [
-            0,
-            state.block,
-            state.kind,
-            state.v,
-            state.t,
-            state.asked,
-            values as u64,
-        ],
+        Ok(values) => {
+            let mut words = state_row::<7>(state);
+            words[6] = values as u64;
+            words
+        }
         Err(r) => padded::<7>(r),
     }
 }
