@@ -5,7 +5,7 @@
 --     rows-..          the loop of `source_rows`; rows_has by membership
 --     half-..          what `into_half` computes, and the loop of `half_table`; half_has by membership
 --     rows_give        the rows give the servers of V with a link into a set
---     tables_give      and so do the two tables
+--     tables_give      and so do the two tables; halves_into: the same of a network's tables
 -- Assumes nothing.
 use mathlib.Core.Path.{◌≡◌, refl, sym, ap, ap₂, ◌∙◌}
 use mathlib.Core.Bool.{Bool, true, false, cond, ◌&&◌, ◌||◌, or-false, or_assoc}
@@ -15,6 +15,7 @@ use native.Mathlib.Omega.{arith}
 use lib.ListN.{length, get_or, set, length-set}
 use lib.Seq.{get_or-set_same, get_or-set_other}
 use lib.Dec.{eqb, ltb}
+use lib.Pow.{pow_mono}
 use borrow.Author.Tests.{lt-ltb, le-ltb, eqb-true, eqb-false, ltb-true, ltb-false}
 use Rattle.facts.proofs.Bools.{cases, same}
 use Rattle.sets.specs.Sets.{Set, has, union, single, encode}
@@ -22,7 +23,7 @@ use Rattle.sets.proofs.Members.{has_union, has_single, single_is, has_empty, has
 use Rattle.network.specs.Links.{Links, linked_in}
 use Rattle.network.specs.Proper.{Proper}
 use Rattle.split.specs.Split.{some_below}
-use Rattle.split.specs.Sources.{sources_to, SourceRows, SourcesOf, Sources, row_if, into_half, HalfTable, into_of, into_rows}
+use Rattle.split.specs.Sources.{sources_to, SourceRows, SourcesOf, Sources, row_if, into_half, HalfTable, into_of, into_rows, Halves}
 use Rattle.split.proofs.Neighbours.{some_below_same, none_of}
 
 pub some_below_beyond : (n k : ℕ) (p : Set) → ((i : ℕ) → n ≤ i → p i ≡ false) → some_below (k + n) p ≡ some_below n p
@@ -220,3 +221,9 @@ module _ (n : ℕ) (links : Links) (rows : List ℕ) (few : n ≤ 8) (so : Sourc
 pub tables_give : (rows lower upper : List ℕ) → HalfTable rows 0 lower → HalfTable rows 4 upper → (s : ℕ) → s < 256 → into_of lower upper s ≡ into_rows rows s
 unfolding into_of into_rows
 tables_give rows lower upper low high s h = ap₂ union (high (s / 16) (omega arith)) (low (s % 16) (omega arith))
+
+pub halves_into : (n : ℕ) (links : Links) (lower upper : List ℕ) → n ≤ 8 → Halves n links lower upper → (s : ℕ) → s < 2 ^ n → (into : ℕ) → into ≡ into_of lower upper s
+    → (u : ℕ) → has into u ≡ (ltb u n && some_below n (λ (v : ℕ). has s v && linked_in links u v))
+halves_into n links lower upper few t s small into e u =
+    let byte : s < 256 = let m = pow_mono few in omega arith in
+    ap (λ (x : ℕ). has x u) (e ∙ tables_give t.rows lower upper t.low t.high s byte) ∙ rows_give n links t.rows few t.sources s small u

@@ -4,10 +4,11 @@
 --     into_half rows first x      == the servers in the rows of the members of x, which are counted from `first` on
 --     HalfTable rows first table <-> the table has these for each set of four servers
 --     into_of lower upper s       == what the two tables give for s
+--     Halves n links lower upper <-> the tables are those of the servers of V with a link into a set; Tables with the sizes
 --     into_rows rows s            == the servers with a link into s
 --     outside_rows rows F s       == how many of them are neither in s nor in F
 use Rattle.std.specs.Prelude.{◌≡◌, cond, ◌&&◌, List, ℕ, ◌+◌, ◌/◌, ◌%◌, ◌<◌, get_or, ltb}
-use Rattle.sets.specs.Sets.{has, union, minus, size, encode}
+use Rattle.sets.specs.Sets.{has, union, minus, size, encode, TableOf}
 use Rattle.network.specs.Links.{Links, linked_in}
 
 unfoldable pub sources_to : Links → ℕ → ℕ
@@ -43,3 +44,13 @@ SourcesOf links v m row = (u : ℕ) → has row u ≡ (ltb u m && linked_in link
 
 abbrev pub Sources : ℕ → Links → List ℕ → Type 0
 Sources n links rows = (v : ℕ) → v < 8 → SourcesOf links v n (get_or rows v 0)
+
+pub record Halves (n : ℕ) (links : Links) (lower upper : List ℕ) : Type 0 where
+  pub rows : List ℕ
+  pub sources : Sources n links rows
+  pub low : HalfTable rows 0 lower
+  pub high : HalfTable rows 4 upper
+
+pub record Tables (n : ℕ) (links : Links) (sizes lower upper : List ℕ) : Type 0 where
+  pub sized : TableOf size sizes
+  pub halves : Halves n links lower upper

@@ -3,8 +3,11 @@
 
 pub mod sources;
 
-ghost use Rattle.std.specs.Prelude.{◌≡◌};
+ghost use Rattle.std.specs.Prelude.{◌≡◌, ℕ, ◌≤◌, ◌<◌, ◌^◌, leb};
+ghost use Rattle.network.specs.Links.{Links};
 ghost use Rattle.split.specs.Split.{first_bad, split_test};
+ghost use Rattle.split.specs.Weak.{outside};
+ghost use Rattle.split.specs.Sources.{Tables};
 ghost use Rattle.split.specs.Answers.{found_of, split_answer_of};
 
 use crate::sources::Sources;
@@ -18,6 +21,25 @@ pub struct Split {
     pub l: u8,
     pub c: u8,
     pub r: u8,
+}
+
+// The set s has at most f incoming neighbours outside F: then it can be a side of a bad split,
+// whatever the other side is.
+// Kept: beside `Sources::is_weak`, for a caller with tables of its own: it asks nothing of them.
+pub fn is_weak(
+    sizes: &[u8; 256],
+    lower: &[u8; 16],
+    upper: &[u8; 16],
+    f: u8,
+    fault: u8,
+    s: u8,
+) -> bool
+    ensures { (n : ℕ) (links : Links) → n ≤ 8 → s < 2 ^ n → Tables n links sizes.now lower.now upper.now → result ≡ leb (outside n links fault s) f }
+{
+    let into = sources::into(lower, upper, s);
+    let neighbours = sets::minus(into, s);
+    let outside = sets::minus(neighbours, fault) as usize;
+    sizes[outside] <= f
 }
 
 // The first bad split in the order of F, then L, then R. L goes over the sets that keep clear of F,

@@ -104,13 +104,20 @@ pub struct Sources {
 }
 
 impl Sources {
+    // Both tables of these rows. A caller that may be done with the rows alone makes them first.
+    pub fn from_rows(rows: [u8; 8]) -> Sources
+        ensures { result.rows ≡ rows }
+    {
+        let lower = lower_table(rows);
+        let upper = upper_table(rows);
+        Sources { rows, lower, upper }
+    }
+
     pub fn of(links: [[bool; 8]; 8]) -> Sources
         ensures { SourceRows links result.rows }
     {
         let rows = source_rows(links);
-        let lower = lower_table(rows);
-        let upper = upper_table(rows);
-        Sources { rows, lower, upper }
+        Sources::from_rows(rows)
     }
 
     // The servers with a link into s.

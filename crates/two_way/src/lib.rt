@@ -12,6 +12,7 @@ ghost use Rattle.two_way.specs.Answers.{quick_answer_of};
 
 use network::{Network, links};
 use refusal::{CallGround, Refusal};
+use split::sources;
 use split::sources::Sources;
 
 // What the older rule says of a site.
@@ -68,19 +69,20 @@ fn cut_off(sources: &Sources, servers: u8, most: u8, part: u8) -> u8
 
 // The least number of servers to be taken away before the rest falls apart. Of the two parts into
 // which it falls one does not have the last server, so the sets of the other servers are enough.
-fn least_taken(network: Network, sources: &Sources) -> u8
-    requires { (one_way network.n network.links ≡ false) × SourceRows network.links sources.now.rows }
+fn least_taken(network: Network, rows: [u8; 8]) -> u8
+    requires { (one_way network.n network.links ≡ false) × SourceRows network.links rows }
     ensures { result ≡ connectivity network.n network.links }
 {
     let most = network.n - 1;
-    if every_linked(network.n, sources.rows) {
+    if every_linked(network.n, rows) {
         return most;
     }
+    let sources = Sources::from_rows(rows);
     let servers = sets::full(network.n);
     let half = servers / 2 + 1;
     let mut least = most;
     for part in 1..half {
-        let taken = cut_off(sources, servers, most, part);
+        let taken = cut_off(&sources, servers, most, part);
         // no number is less
         if taken == 0 {
             return 0;
@@ -112,11 +114,11 @@ fn by_rule(network: Network) -> Result<Rule, Refusal>
     ensures { quick_answer_of result ≡ quick_of (card_network network.n network.f network.links) }
 {
     let rows = links::rows(network.links);
-    let sources = Sources::of(network.links);
-    if unlike(rows, sources.rows) {
+    let sources = sources::source_rows(network.links);
+    if unlike(rows, sources) {
         return Err(Refusal::Call(CallGround::OneWay));
     }
-    let least = least_taken(network, &sources);
+    let least = least_taken(network, sources);
     let holds = older_rule(network.n, network.f, least);
     Ok(Rule {
         holds,

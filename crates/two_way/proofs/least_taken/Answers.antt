@@ -17,7 +17,7 @@ loop-part-init c = let p = c.args.network.proper in scan_starts _ _ _ _ _ p.leas
 pub returns-then-taken-eq0 : goal.returns-then-taken-eq0
 returns-then-taken-eq0 c =
     let p = c.args.network.proper in
-    scan_nothing _ _ _ _ _ _ _ _ c.loop-part.invariant c.loop-part-test.true c.cut_off-taken.ensures c.if-taken-eq0.true _ (two_way _ _ _ p c.requires.0) (sources_proper _ _ _ _ p c.requires.1)
+    scan_nothing _ _ _ _ _ _ _ _ c.loop-part.invariant c.loop-part-test.true c.cut_off-taken.ensures c.if-taken-eq0.true _ (two_way _ _ _ p c.requires.0) (rw c.from_rows-sources.ensures (sources_proper _ _ _ _ p c.requires.1))
 
 pub loop-part-preserved : goal.loop-part-preserved
 loop-part-preserved c =
@@ -29,4 +29,4 @@ loop-part-preserved c =
 pub returns : goal.returns
 returns c =
     let p = c.args.network.proper in
-    scan_ends _ _ _ _ _ _ _ c.loop-part.invariant c.loop-part-test.false _ (two_way _ _ _ p c.requires.0) (sources_proper _ _ _ _ p c.requires.1)
+    scan_ends _ _ _ _ _ _ _ c.loop-part.invariant c.loop-part-test.false _ (two_way _ _ _ p c.requires.0) (rw c.from_rows-sources.ensures (sources_proper _ _ _ _ p c.requires.1))
