@@ -144,7 +144,9 @@ fn read_front(card: &[u8]) -> Result<Head, CardGround>
 }
 
 impl Network {
-    // Reads the card: its network, or what is at fault.
+    // Reads the card: its network, or what is at fault. Inlined, so that the marks are not copied on their way
+    // to the caller: a card refused halfway takes a quarter more time otherwise.
+    #[inline(always)]
     pub fn read(card: &[u8]) -> Result<Network, Refusal>
         ensures { network_of result ≡ read_card card.now }
     {
