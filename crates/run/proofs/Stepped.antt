@@ -1,26 +1,29 @@
 -- The steps of a block on sets of servers, from what the code's parts give.
 --     has_replaced   the members of a set that is replaced inside another; has_alike: of the servers whose arrivals are alike
---     step1_is       step 1 as its contract has it; step5_is
---     gathered_is    the common values taken by all receivers, as the contract has it; gathered_by: steps 2 and 4
---     compares       step 3; learns: step 6
+--     step1_is       step 1 as its contract has it; step2_is, step3_is, step4_is, step5_is, step6_is
+--     gathered_is    the common values taken by all receivers, as the contract has it; gathered_by: steps 2 and 4 over any carriages
+--     compares       step 3 over any carriages; learns: step 6
 --     outside_is     the receivers of step 4
 -- Assumes nothing.
 use mathlib.Core.Path.{◌≡◌, refl, ap, ◌∙◌}
 use mathlib.Core.Bool.{Bool, true, false, cond, not, ◌&&◌, ◌||◌}
-use mathlib.Core.List.{List}
-use Prim.Native.Nat.{ℕ, min, ◌≤◌}
+use mathlib.Core.List.{List, map}
+use Prim.Native.Nat.{ℕ, min, ◌+◌, ◌*◌, ◌≤◌}
 use native.Mathlib.Omega.{arith}
 use lib.Dec.{ltb}
 use Rattle.facts.proofs.Bools.{cases}
 use Rattle.sets.specs.Sets.{has, union, meet, minus, full}
 use Rattle.sets.proofs.Members.{has_union, has_meet, has_minus}
-use Rattle.rules.specs.Blocks.{Carriage}
+use Rattle.rules.specs.Blocks.{Carriage, routes_at, reports_at, carriage_of, report_carriages}
 use Rattle.steps.specs.Hearing.{heard, all, common}
 use Rattle.steps.specs.Steps.{held, values, step1, gather, compare, step5, step6}
 use Rattle.run.specs.Speaking.{bit_of, work_of, bits_of, works_of, replaced, alike, settled, Speaks, against}
 use Rattle.run.specs.declared.hearing.Against.{Against}
+use Rattle.carriage.specs.declared.opening.Opening.{Opening}
+use Rattle.carriage.specs.Openings.{Ready, block_at}
 use Rattle.steps.proofs.Eight.{values_at, values_ext}
 use Rattle.run.proofs.Arrivals.{common_settled, heard_small, bits_small, works_small}
+use Rattle.carriage.proofs.Placed.{block_inward, block_among, block_outward, block_reports}
 
 -- membership of one server
 
@@ -166,3 +169,41 @@ pub outside_is : (n F S : ℕ) → n ≤ 8 → (servers : ℕ) → servers ≡ f
 outside_is n F S few servers u sound v receivers q =
     let m : min n 8 ≡ n = omega arith in
     q ∙ ap (λ (z : ℕ). minus z S) (v ∙ ap (λ (z : ℕ). minus z F) (u ∙ ap full m))
+
+-- the same in a block
+
+module _ (o : Opening) (s : List ℕ) (r : Ready o s) (X : ℕ) (table : List ℕ) (number sure t : ℕ) (a : Against) where
+  pub step2_is : Speaks (heard X table number (held (works_of sure t)) (map carriage_of (routes_at s 4 o.inward))) a
+      → (receivers : ℕ) → receivers ≡ minus o.quorum o.side
+      → (after : List ℕ) → after ≡ values (λ (i : ℕ). cond (has receivers i) (settled (has a.zero i) (has a.one i)) (work_of sure t i))
+      → after ≡ gather X table number (map carriage_of (block_at o s).inward) (minus o.quorum o.side) (works_of sure t)
+  step2_is p receivers q after e =
+      let cs = map carriage_of (block_at o s).inward in
+      let p' : Speaks (heard X table number (held (works_of sure t)) cs) a = rw (block_inward o s r) p in
+      gathered_by X table number cs a receivers sure t p' after e (minus o.quorum o.side) q
+
+  pub step4_is : Speaks (heard X table (number + (o.inward + o.among)) (held (works_of sure t)) (map carriage_of (routes_at s (4 + 9 * (o.inward + o.among)) o.outward))) a
+      → (servers : ℕ) → servers ≡ full (min o.n 8) → (sound : ℕ) → sound ≡ minus servers o.fault → (receivers : ℕ) → receivers ≡ minus sound o.quorum
+      → (after : List ℕ) → after ≡ values (λ (i : ℕ). cond (has receivers i) (settled (has a.zero i) (has a.one i)) (work_of sure t i))
+      → after ≡ gather X table (number + o.inward + o.among) (map carriage_of (block_at o s).outward) (minus (minus (full o.n) o.fault) o.quorum) (works_of sure t)
+  step4_is p servers u sound u' receivers q after e =
+      let cs = map carriage_of (block_at o s).outward in
+      let k : number + (o.inward + o.among) ≡ number + o.inward + o.among = omega arith in
+      let p' : Speaks (heard X table (number + o.inward + o.among) (held (works_of sure t)) cs) a = rw (block_outward o s r, ← k) p in
+      gathered_by X table (number + o.inward + o.among) cs a receivers sure t p' after e _ (outside_is o.n o.fault o.quorum r.few servers u sound u' receivers q)
+
+  pub step3_is : Speaks (heard X table (number + o.inward) (held (works_of sure t)) (map carriage_of (routes_at s (4 + 9 * o.inward) o.among))) a
+      → (differs : ℕ) → differs ≡ replaced a.zero t a.one → (leaving : ℕ) → leaving ≡ meet o.quorum differs → (sure' : ℕ) → sure' ≡ minus sure leaving
+      → works_of sure' t ≡ compare X table (number + o.inward) (map carriage_of (block_at o s).among) o.quorum (works_of sure t)
+  step3_is p =
+      let cs = map carriage_of (block_at o s).among in
+      compares X table (number + o.inward) cs a o.quorum sure t (rw (block_among o s r) p)
+
+module _ (o : Opening) (s : List ℕ) (r : Ready o s) (X : ℕ) (table : List ℕ) (number v : ℕ) (a : Against) where
+  pub step6_is : Speaks (heard X table (number + (o.inward + o.among + o.outward)) (held (bits_of v)) (report_carriages (reports_at s (4 + 9 * (o.inward + o.among + o.outward)) o.reports))) a
+      → (like : ℕ) → like ≡ alike a.zero a.one → (told : ℕ) → told ≡ meet o.fault like → (v' : ℕ) → v' ≡ replaced v told a.zero
+      → bits_of v' ≡ step6 X table (number + o.inward + o.among + o.outward) (report_carriages (block_at o s).reports) o.fault (bits_of v)
+  step6_is p =
+      let cs = report_carriages (block_at o s).reports in
+      let k : number + (o.inward + o.among + o.outward) ≡ number + o.inward + o.among + o.outward = omega arith in
+      learns X table (number + o.inward + o.among + o.outward) cs a o.fault v (rw (block_reports o s r, ← k) p)
