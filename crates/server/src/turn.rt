@@ -66,11 +66,18 @@ fn value(state: State) -> u8
 }
 
 // The value, so many times; later bytes are left as they are.
+// Kept: no `fill`, of which LLVM makes a call of the C library's memset, and what a first call of that may
+// take of the stack is more than three times what the whole ask needs. A byte that has the value is passed
+// by, since a loop that stores each byte would become that call too.
 fn fill(lent: &mut [u8], count: usize, value: u8)
     requires { count ≤ length lent.old }
     ensures { lent.new ≡ replicate count value ++ drop count lent.old }
 {
-    lent[..count].fill(value);
+    for i in 0..count {
+        if lent[i] != value {
+            lent[i] = value;
+        }
+    }
 }
 
 // The grounds of an ask, and the values where there is none.
