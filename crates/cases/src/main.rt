@@ -24,7 +24,6 @@
 
 ghost use Rattle.std.specs.Prelude.{◌≤◌, length, IfOk};
 
-use std::alloc::{AllocError, Global};
 use std::fmt::Display;
 use std::io;
 use std::io::Read;
@@ -102,21 +101,27 @@ fn plan_case(rt: &impl Print, card: &[u8], plan: &[u8]) -> io::Result<()> {
     print_all(rt, &answer)
 }
 
-// So many lent bytes.
-fn lent(alloc: Global, size: usize) -> Result<Vec<u8>, AllocError> {
-    Ok(vec![in alloc; 165u8; size]?)
-}
-
-fn write_case(rt: &impl Print, alloc: Global, card: &[u8]) -> io::Result<()> {
+fn write_into(rt: &impl Print, card: &[u8], lent: &mut [u8]) -> io::Result<()> {
     let mut answer = [9u64; 8];
-    let mut lent = lent(alloc, 300_000)?;
-    agreement::agreement_write_plan(card, &mut lent, &mut answer);
+    agreement::agreement_write_plan(card, &mut *lent, &mut answer);
     print_all(rt, &answer)?;
     if answer[0] == 0 {
         let bytes = answer[1] as usize;
         plan_case(rt, card, lent.get(..bytes).unwrap_or(&[]))?;
     }
     Ok(())
+}
+
+// Apart from write_case, so that no proof writes out all the bytes.
+fn write_within(rt: &impl Print, card: &[u8], lent: &mut [u8; 300000]) -> io::Result<()> {
+    write_into(rt, card, &mut *lent)
+}
+
+// Kept: what is lent is of fixed size, here and below, and on no heap, which could be used up: the program
+// answers every input.
+fn write_case(rt: &impl Print, card: &[u8]) -> io::Result<()> {
+    let mut lent = [165u8; 300000];
+    write_within(rt, card, &mut lent)
 }
 
 fn load_case(rt: &impl Print, card: &[u8], plan: &[u8]) -> io::Result<()> {
@@ -137,17 +142,43 @@ fn route_case(rt: &impl Print, site: &[u8], operand: &[u8]) -> io::Result<()> {
     Ok(())
 }
 
-fn print_case(rt: &impl Print, alloc: Global, card: &[u8], buffer: &[u8]) -> io::Result<()> {
+// How many bytes are lent: as many as the part has, and at most 256.
+fn lent_size(buffer: &[u8]) -> usize
+    ensures { result ≤ 256 }
+{
+    buffer.len().min(256)
+}
+
+fn print_into(rt: &impl Print, card: &[u8], lent: &mut [u8]) -> io::Result<()> {
     let mut answer = [9u64; 4];
-    let mut lent = lent(alloc, buffer.len().min(256))?;
-    agreement::agreement_print_card(card, &mut lent, &mut answer);
+    agreement::agreement_print_card(card, &mut *lent, &mut answer);
     print_all(rt, &answer)?;
-    print_all(rt, &lent)
+    print_all(rt, lent)
+}
+
+fn print_case(rt: &impl Print, card: &[u8], buffer: &[u8]) -> io::Result<()> {
+    let mut lent = [165u8; 256];
+    let size = lent_size(buffer);
+    print_into(rt, card, &mut lent[..size])
+}
+
+fn run_into(
+    rt: &impl Print,
+    card: &[u8],
+    plan: &[u8],
+    inputs: &[u8],
+    faulty: u8,
+    table: &[u8],
+    lent: &mut [u8],
+) -> io::Result<()> {
+    let mut answer = [9u64; 4];
+    agreement::agreement_run(card, plan, inputs, faulty, table, &mut *lent, &mut answer);
+    print_all(rt, &answer)?;
+    print_all(rt, lent)
 }
 
 fn run_case(
     rt: &impl Print,
-    alloc: Global,
     card: &[u8],
     plan: &[u8],
     inputs: &[u8],
@@ -155,11 +186,9 @@ fn run_case(
     table: &[u8],
     buffer: &[u8],
 ) -> io::Result<()> {
-    let mut answer = [9u64; 4];
-    let mut lent = lent(alloc, buffer.len().min(256))?;
-    agreement::agreement_run(card, plan, inputs, faulty, table, &mut lent, &mut answer);
-    print_all(rt, &answer)?;
-    print_all(rt, &lent)
+    let mut lent = [165u8; 256];
+    let size = lent_size(buffer);
+    run_into(rt, card, plan, inputs, faulty, table, &mut lent[..size])
 }
 
 // What rehearse prints has its own line ends.
@@ -186,21 +215,31 @@ fn state_words(state: &[u8]) -> [u64; 5] {
     words
 }
 
+fn ask_into(
+    rt: &impl Print,
+    card: &[u8],
+    plan: &[u8],
+    server: u8,
+    state: [u64; 5],
+    lent: &mut [u8],
+) -> io::Result<()> {
+    let mut answer = [9u64; 7];
+    agreement::agreement_ask(card, plan, server, &state, &mut *lent, &mut answer);
+    print_all(rt, &answer)?;
+    print_all(rt, lent)
+}
+
 fn ask_case(
     rt: &impl Print,
-    alloc: Global,
     card: &[u8],
     plan: &[u8],
     server: u8,
     state: &[u8],
     buffer: &[u8],
 ) -> io::Result<()> {
-    let mut answer = [9u64; 7];
-    let mut lent = lent(alloc, buffer.len().min(256))?;
-    let state = state_words(state);
-    agreement::agreement_ask(card, plan, server, &state, &mut lent, &mut answer);
-    print_all(rt, &answer)?;
-    print_all(rt, &lent)
+    let mut lent = [165u8; 256];
+    let size = lent_size(buffer);
+    ask_into(rt, card, plan, server, state_words(state), &mut lent[..size])
 }
 
 fn commit_case(
@@ -218,7 +257,7 @@ fn commit_case(
 }
 
 // The case of this kind whose parts come next; any other byte counts as r.
-fn answer_case(rt: &impl Print, alloc: Global, kind: u8, parts: &mut Parts<'_>) -> io::Result<()>
+fn answer_case(rt: &impl Print, kind: u8, parts: &mut Parts<'_>) -> io::Result<()>
     ensures { length parts.new.rest.now ≤ length parts.old.rest.now }
 {
     let card = parts.take();
@@ -226,8 +265,8 @@ fn answer_case(rt: &impl Print, alloc: Global, kind: u8, parts: &mut Parts<'_>) 
         b'c' => card_case(rt, card)?,
         b's' => split_case(rt, card)?,
         b'q' => quick_case(rt, card)?,
-        b'f' => write_case(rt, alloc, card)?,
-        b'b' => print_case(rt, alloc, card, parts.take())?,
+        b'f' => write_case(rt, card)?,
+        b'b' => print_case(rt, card, parts.take())?,
         b'p' => plan_case(rt, card, parts.take())?,
         b'l' => load_case(rt, card, parts.take())?,
         b'w' => route_case(rt, card, parts.take())?,
@@ -244,7 +283,7 @@ fn answer_case(rt: &impl Print, alloc: Global, kind: u8, parts: &mut Parts<'_>) 
             let plan = parts.take();
             let server = parts.take_byte();
             let state = parts.take();
-            ask_case(rt, alloc, card, plan, server, state, parts.take())?;
+            ask_case(rt, card, plan, server, state, parts.take())?;
         }
         b'm' => {
             let plan = parts.take();
@@ -257,25 +296,46 @@ fn answer_case(rt: &impl Print, alloc: Global, kind: u8, parts: &mut Parts<'_>) 
             let inputs = parts.take();
             let faulty = parts.take_byte();
             let table = parts.take();
-            run_case(rt, alloc, card, plan, inputs, faulty, table, parts.take())?;
+            run_case(rt, card, plan, inputs, faulty, table, parts.take())?;
         }
     }
     println!(rt)
 }
 
-fn answer_all(rt: &impl Print, alloc: Global, input: &[u8]) -> io::Result<()> {
-    let mut left = input;
+// Reads until the buffer is full or the input ends; answers how many bytes there are.
+fn read_full(input: &mut impl Read, buf: &mut [u8]) -> io::Result<usize>
+    ensures { IfOk result (λ n. n ≤ length buf.new) }
+{
+    let mut done = 0;
+    // each round but the last brings a byte
+    for _ in 0..buf.len() {
+        let n = input.read(&mut buf[done..])?;
+        if n == 0 {
+            break;
+        }
+        done += n;
+    }
+    Ok(done)
+}
+
+// Reads the cases into the lent bytes and answers them.
+fn answer_all(rt: &(impl Input + Print), buf: &mut [u8]) -> io::Result<()> {
+    let n = read_full(&mut rt.reader(), &mut *buf)?;
+    let mut left = &buf[..n];
     while let Some((kind, rest)) = left.split_first() {
         let mut parts = Parts { rest };
-        answer_case(rt, alloc, *kind, &mut parts)?;
+        answer_case(rt, *kind, &mut parts)?;
         left = parts.rest;
     }
     Ok(())
 }
 
+// Apart from main, so that no proof writes out all the zeros.
+fn answer_within(rt: &(impl Input + Print), buf: &mut [u8; 4194304]) -> io::Result<()> {
+    answer_all(rt, &mut *buf)
+}
+
 fn main(rt: HostRuntime) -> io::Result<()> {
-    let mut input = Vec::new(rt.alloc());
-    // no more than a machine's tests have
-    rt.reader().take(4_194_304).read_to_end(&mut input)?;
-    answer_all(&rt, rt.alloc(), &input)
+    let mut buf = [0u8; 4194304];
+    answer_within(&rt, &mut buf)
 }
