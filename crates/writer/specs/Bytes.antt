@@ -3,8 +3,9 @@
 --     body_bytes n f links F S   == what follows it, which F and S fix
 --     block_bytes, ..            == a block and the blocks of one F
 --     block_for, body_for, ..    == the same, by the weak sets of F and what is chosen
+--     body_at start each k       == where the body of block k stands: from `start` on the blocks stand one behind the other, each with `each` bytes
 --     Again body from each at lent   <-> no block with this body has been written; or it stands at `from`, before `at`, and a block has `each` bytes
-use Rattle.std.specs.Prelude.{◌≡◌, List, [], ◌∷◌, map, ℕ, ◌+◌, ◌^◌, ◌≤◌, length, take, drop, Option, IfSome}
+use Rattle.std.specs.Prelude.{◌≡◌, List, [], ◌∷◌, map, ℕ, ◌+◌, ◌*◌, ◌^◌, ◌≤◌, length, take, drop, Option, IfSome}
 use Rattle.sets.specs.Sets.{minus, full}
 use Rattle.network.specs.Links.{Links}
 use Rattle.sets.specs.Members.{list_from}
@@ -34,6 +35,10 @@ body_for w S = body_bytes w.network.now.n w.network.now.f w.network.now.links w.
 
 abbrev pub cuts_for : Weak → List ℕ
 cuts_for w = cuts_bytes w.network.now.n w.network.now.f w.network.now.links w.fault
+
+-- behind the blocks before it and its own opening
+abbrev pub body_at : (start each k : ℕ) → ℕ
+body_at start each k = start + k * each + 4
 
 -- so many bytes stand at `from`, all before `at`
 pub record Stands (body : List ℕ) (each at : ℕ) (lent : List ℕ) (from : ℕ) : Type 0 where

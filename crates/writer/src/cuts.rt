@@ -1,12 +1,22 @@
 // The blocks of one F.
-ghost use Rattle.std.specs.Prelude.{◌≡◌, ◌+◌, ◌≤◌, length};
+ghost use Rattle.std.specs.Prelude.{◌≡◌, ◌+◌, ◌≤◌, ◌<◌, length, IfSome, option_map};
 ghost use Rattle.facts.specs.Laid.{laid};
-ghost use Rattle.writer.specs.Bytes.{block_for, body_for, cuts_for, Again};
+ghost use Rattle.writer.specs.Bytes.{block_for, body_for, cuts_for, body_at, Again};
 
 use crate::again;
 use crate::fault::Fault;
 use choice::Chosen;
 use plan::due;
+
+// Where the body of the block of this number stands: the blocks of one F have the same length and stand one
+// behind the other.
+fn body_place(start: usize, each: usize, number: Option<u8>) -> Option<usize>
+    requires { IfSome number (λ k. body_at start each k < 18446744073709551616) }
+    ensures { result ≡ option_map (body_at start each) number }
+{
+    let k = number? as usize;
+    Some(start + k * each + 4)
+}
 
 // Kept: the whole buffer goes with the place in it, as a body is copied from before the place.
 impl<'a> Fault<'a> {
@@ -51,14 +61,17 @@ impl<'a> Fault<'a> {
         ensures bytes { lent.new ≡ laid start (cuts_for self.now.weak) lent.old }
         ensures after { result ≡ start + length (cuts_for self.now.weak) }
     {
-        let mut places = [None; 256];
+        // By S, the number of the last block with it.
+        // Kept: the number and not the place of its body, for the stack: 256 places take eight times as much.
+        let mut numbers: [Option<u8>; 256] = [None; 256];
         let mut each: usize = 0;
         let mut at = start;
-        for part in due::parts(self.weak.sound) {
+        for (k, part) in due::parts(self.weak.sound).enumerate() {
             let chosen = self.weak.choose(part);
             let key = chosen.quorum as usize;
-            let bytes = self.put_one(lent, at, places[key], each, chosen);
-            places[key] = Some(at + 4);
+            let from = body_place(start, each, numbers[key]);
+            let bytes = self.put_one(lent, at, from, each, chosen);
+            numbers[key] = Some(k as u8);
             each = bytes;
             at += bytes;
         }

@@ -3,7 +3,7 @@ use Rattle.plan.specs.Ahead.{parts_left}
 use Rattle.writer.proofs.Cutting.{Cutting}
 use Rattle.writer.proofs.fault.Fault.put_cuts.Given as goal
 
-abbrev pub invariant-loop-part : goal.invariant-loop-part
-invariant-loop-part l =
+abbrev pub invariant-loop-k : goal.invariant-loop-k
+invariant-loop-k l =
     let w = l.self.weak in
-    Cutting w.network.now.n w.network.now.f w.network.now.links w.fault l.start l.initial.lent (parts_left l.part-iterator) l.at l.each l.places l.lent
+    Cutting w.network.now.n w.network.now.f w.network.now.links w.fault l.start l.initial.lent (parts_left l.k-iterator.iter) l.k-iterator.count l.at l.each l.numbers l.lent
