@@ -176,11 +176,11 @@ enum {
 
 /*
  * The bytes of stack that a call needs at most. The frames along the calls in the archive add up to
- * 9,056 bytes at the deepest, in agreement_write_plan: with them goes what a first call of memset
+ * 5,488 bytes at the deepest, in agreement_write_plan: with them goes what a first call of memset
  * may take of the stack. The search for separate routes calls itself, with an allowance that falls
  * at each call, and the bound counts as many frames as the allowance has. agreement_separate_routes
- * needs half as much, the other calls a fifth of it or less. No call on the example sites or on
- * damaged versions of them was measured to use more. `sh tools/stack` does both again, for each
+ * needs 3,672 bytes, the other calls a fifth of the deepest or less. No call on the example sites or
+ * on damaged versions of them was measured to use more. `sh tools/stack` does both again, for each
  * call.
  */
 #define AGREEMENT_STACK 12288

@@ -239,7 +239,14 @@ fn ask_case(
 ) -> io::Result<()> {
     let mut lent = [165u8; 256];
     let size = lent_size(buffer);
-    ask_into(rt, card, plan, server, state_words(state), &mut lent[..size])
+    ask_into(
+        rt,
+        card,
+        plan,
+        server,
+        state_words(state),
+        &mut lent[..size],
+    )
 }
 
 fn commit_case(

@@ -61,10 +61,12 @@ fn cut_off(sources: &Sources, servers: u8, most: u8, part: u8) -> u8
     let neighbours = sets::minus(into, part);
     let without = sets::minus(servers, neighbours);
     let others = sets::minus(without, part);
+    // at hand before the test, so that no branch has to be foreseen for each part
+    let cut = sets::size(neighbours);
     if others == 0 {
         return most;
     }
-    sets::size(neighbours)
+    cut
 }
 
 // The least number of servers to be taken away before the rest falls apart. Of the two parts into
@@ -83,11 +85,11 @@ fn least_taken(network: Network, rows: [u8; 8]) -> u8
     let mut least = most;
     for part in 1..half {
         let taken = cut_off(&sources, servers, most, part);
-        // no number is less
-        if taken == 0 {
-            return 0;
-        }
         if taken < least {
+            // no number is less
+            if taken == 0 {
+                return 0;
+            }
             least = taken;
         }
     }

@@ -6,4 +6,4 @@ pub returns-then-others-eq0 : goal.returns-then-others-eq0
 returns-then-others-eq0 c = cut_none _ _ _ _ _ _ _ _ c.linked_into-into.ensures c.minus-neighbours.ensures c.minus-without.ensures c.minus-others.ensures c.if-others-eq0.true
 
 pub returns : goal.returns
-returns c = cut_some _ _ _ _ _ _ _ _ c.linked_into-into.ensures c.minus-neighbours.ensures c.minus-without.ensures c.minus-others.ensures c.if-others-eq0.false _ c.size.ensures
+returns c = cut_some _ _ _ _ _ _ _ _ c.linked_into-into.ensures c.minus-neighbours.ensures c.minus-without.ensures c.minus-others.ensures c.if-others-eq0.false _ c.size-cut.ensures
